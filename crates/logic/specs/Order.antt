@@ -1,0 +1,37 @@
+-- Which answer comes first (document 01, "The words used here" and "Which answer").
+use Prim.Native.Nat.{ℕ, zero, suc, _≤_, _<_}
+use mathlib.Core.Path.{_≡_}
+use mathlib.Core.Logic.{_⊎_}
+use mathlib.Core.List.{List, [], _∷_, _++_}
+use lib.ListN.{length}
+use Rattle.logic.specs.Sheet.{Sheet}
+use Rattle.logic.specs.Structure.{Structure, codes, sumTo}
+
+-- of two lists of one length, xs has the smaller entry at the first place where they differ: xs comes first
+abbrev pub Before : List ℕ → List ℕ → Type 0
+Before [] ys = ⊥
+Before (x ∷ xs) [] = ⊥
+Before (x ∷ xs) (y ∷ ys) = (x < y) ⊎ ((x ≡ y) × Before xs ys)
+
+-- f 0, f 1, .. , f (n - 1)
+abbrev pub firsts : ℕ → (ℕ → ℕ) → List ℕ
+firsts zero f = []
+firsts (suc n) f = firsts n f ++ (f n ∷ [])
+
+-- the sizes of a structure's sorts, in the sheet's order, and their sum
+abbrev pub sizesOf : Structure → Sheet → List ℕ
+sizesOf M sh = firsts (length (sh .bounds)) (M .size)
+
+abbrev pub sumOf : Structure → Sheet → ℕ
+sumOf M sh = sumTo (length (sh .bounds)) (M .size)
+
+-- M comes earlier than N: a smaller sum; of equal sums, the sizes that come first; of equal sizes, the codes that come first
+abbrev pub Earlier : Sheet → Structure → Structure → Type 0
+Earlier sh M N =
+    (sumOf M sh < sumOf N sh)
+    ⊎ ((sumOf M sh ≡ sumOf N sh)
+    × (Before (sizesOf M sh) (sizesOf N sh) ⊎ ((sizesOf M sh ≡ sizesOf N sh) × Before (codes M sh) (codes N sh))))
+
+-- The same order on the first n values of two functions: at the first place where they differ, f is not the larger.
+abbrev pub NotAfter : ℕ → (ℕ → ℕ) → (ℕ → ℕ) → Type 0
+NotAfter n f g = (j : ℕ) → j < n → ((i : ℕ) → i < j → f i ≡ g i) → f j ≤ g j

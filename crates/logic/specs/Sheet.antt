@@ -1,0 +1,52 @@
+-- A sheet as its records say it: lists in the order of the records, so that a number in a record is a place in a list
+-- (document 01, "The words used here" and "The sheet").
+use Prim.Native.Nat.{ℕ}
+use mathlib.Core.Bool.{Bool, true}
+use mathlib.Core.List.{List, []}
+use lib.ListN.{getD}
+
+-- the limits of a sort (document 01: field): the least and the greatest number of its codes
+pub record Bound : Type 0 where
+  pub floor : ℕ
+  pub ceiling : ℕ
+
+-- a function symbol (document 01: name): the sort that it gives, and the sorts that it takes
+pub record Symbol : Type 0 where
+  pub result : ℕ
+  pub params : List ℕ
+
+-- a ground term (document 01: expression): a symbol applied to earlier terms
+pub record Term : Type 0 where
+  pub symbol : ℕ
+  pub args : List ℕ
+
+-- a literal (document 01: statement): that two terms are the same, or that they differ
+pub record Literal : Type 0 where
+  pub equal : Bool
+  pub left : ℕ
+  pub right : ℕ
+
+-- a whole sheet, or the part of one that has been read; the total is 0 until its record has been read
+pub record Sheet : Type 0 where
+  pub bounds : List Bound
+  pub symbols : List Symbol
+  pub terms : List Term
+  pub literals : List Literal
+  pub total : ℕ
+
+-- the entry with a number; what these give past the end is never used of an accepted sheet
+abbrev pub boundAt : Sheet → ℕ → Bound
+boundAt sh s = getD (sh .bounds) s (record { floor = 0; ceiling = 0 })
+
+abbrev pub symbolAt : Sheet → ℕ → Symbol
+symbolAt sh f = getD (sh .symbols) f (record { result = 0; params = [] })
+
+abbrev pub termAt : Sheet → ℕ → Term
+termAt sh i = getD (sh .terms) i (record { symbol = 0; args = [] })
+
+abbrev pub literalAt : Sheet → ℕ → Literal
+literalAt sh k = getD (sh .literals) k (record { equal = true; left = 0; right = 0 })
+
+-- the sort of a term is the sort that its symbol gives
+abbrev pub sortAt : Sheet → ℕ → ℕ
+sortAt sh i = symbolAt sh (termAt sh i .symbol) .result
