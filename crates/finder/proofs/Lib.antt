@@ -1,2 +1,6 @@
 pub mod Lists
+pub mod Boxes
+pub mod Solving
+pub mod Listing
+pub mod Demand
 pub mod Worked

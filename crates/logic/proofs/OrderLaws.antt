@@ -18,6 +18,9 @@ before-asym (x ∷ xs) (y ∷ ys) (inl l) (inr m) = let e : y ≡ x = m .0 in om
 before-asym (x ∷ xs) (y ∷ ys) (inr l) (inl m) = let e : x ≡ y = l .0 in omega arith
 before-asym (x ∷ xs) (y ∷ ys) (inr l) (inr m) = before-asym xs ys (l .1) (m .1)
 
+pub before-irrefl : (xs : List ℕ) → Before xs xs → ⊥
+before-irrefl xs b = before-asym xs xs b b
+
 -- the place where xs has the smaller entry, none before it differing
 pub record Place (xs ys : List ℕ) : Type 0 where
   pub place : ℕ
