@@ -3,4 +3,5 @@ pub mod Boxes
 pub mod Solving
 pub mod Listing
 pub mod Demand
+pub mod Outcomes
 pub mod Worked

@@ -175,6 +175,17 @@ listed-fits sh e l v =
     sized : (s : ℕ) → s < length (sh .bounds) → InRange (sizeRange (boundAt sh s)) (at (e .sizes) s)
     sized = box-at sizeRange noBound (sh .bounds) (e .sizes) (l .sizes)
 
+-- a sheet that no codes solve has no answer
+pub unsolvable : (sh : Sheet) → ((c : ℕ → ℕ) → Solution sh c → ⊥) → answer sh ≡ none
+unfolding answer
+unsolvable sh h =
+    elim (Lists.found-or-none (answer sh)) [
+      | inl q ↦ q
+      | inr r ↦
+          absurd (h (at (r .0 .codes)) (solved sh (r .0 .codes)
+          (Lists.first-is Sooner (λ (d : Entry). solves sh (d .codes)) (listing sh) (r .0) (sorted-listing sh) (r .1) .passes)))
+    ]
+
 -- the entry that is the answer
 pub record Chosen (sh : Sheet) (e : Entry) : Type 0 where
   pub fits : Fits sh (at (e .sizes)) (at (e .codes))
