@@ -71,9 +71,9 @@ sorted-fronts (x ∷ xs) tails s t =
     (sorted-map Before Before (headed x) (λ k l b. inr (refl, b)) tails t)
     (sorted-fronts xs tails (s .1) t)
     (λ k l m n.
-      let p : (a : List ℕ) × Mem a tails × (k ≡ headed x a) = map-mem (headed x) k tails m in
-      let q : Fronted l xs tails = fronts-mem l xs tails n in
-      rw (p .2, q .is) (inl (s .0 (q .head) (q .among))))
+    let p : (a : List ℕ) × Mem a tails × (k ≡ headed x a) = map-mem (headed x) k tails m in
+    let q : Fronted l xs tails = fronts-mem l xs tails n in
+    rw (p .2, q .is) (inl (s .0 (q .head) (q .among))))
 
 pub box-mem : (rs : List Range) (l : List ℕ) → InBox rs l → Mem l (box rs)
 box-mem [] [] b = inl refl

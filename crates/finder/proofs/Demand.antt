@@ -40,7 +40,7 @@ module _ (sh : Sheet) (w : WellFormed sh) (e : Entry) (f : Fits sh (at (e .sizes
       let k : Kept (cellOf (at (e .codes)) i (termAt sh i) .key) (reachedCells sh (e .codes)) v = kept (cellOf (at (e .codes)) i (termAt sh i) .key) (reachedCells sh (e .codes)) v q in
       let r : ReachedBy sh (at (e .codes)) (k .cell) = reached-by sh (at (e .codes)) (k .cell) (k .member) in
       let keys : cellOf (at (e .codes)) i (termAt sh i) .key ≡ cellOf (at (e .codes)) (r .number) (termAt sh (r .number)) .key =
-          sym (k .keyed) ∙ ap (λ (x : Cell). x .key) (r .is) in
+      sym (k .keyed) ∙ ap (λ (x : Cell). x .key) (r .is) in
       f .solution .congruent i (r .number) h (r .there) (cons-head _ _ _ _ keys) (cons-tail _ _ _ _ keys)
       ∙ sym (ap (λ (x : Cell). x .code) (r .is))
       ∙ k .coded
@@ -83,6 +83,7 @@ earlier-sooner sh e k N M p q r (inr l) =
   where
     own : firsts (length (sh .terms)) (code N sh) ≡ codes N sh
     own = firsts-at (length (sh .terms)) (codes N sh) (length-codes N sh)
+
     step : Before (sizesOf N sh) (sizesOf M sh) ⊎ ((sizesOf N sh ≡ sizesOf M sh) × Before (codes N sh) (codes M sh)) → Ahead (entryOf sh (N .size) (code N sh)) e
     step (inl b) = inl (rw (← p) b)
     step (inr b) = inr (b .0 ∙ p, rw (own, ← r) (b .1))
@@ -101,13 +102,16 @@ answers-with sh w e q u t =
   where
     k : Chosen sh e
     k = chosen sh w e q
+
     sums : sumTo (length (sh .bounds)) (at (e .sizes)) ≡ sum (e .sizes)
     sums = sym (sum-firsts (length (sh .bounds)) (at (e .sizes))) ∙ ap sum (k .sizes)
+
     own : codes (structureWith u sh e) sh ≡ e .codes
     own =
         sym (firsts-at (length (sh .terms)) (codes (structureWith u sh e) sh) (length-codes (structureWith u sh e) sh))
         ∙ firsts-same (length (sh .terms)) (code (structureWith u sh e) sh) (at (e .codes)) (made-code sh w e (k .fits) u)
         ∙ k .codes
+
     no-sooner : {size c : ℕ → ℕ} → Fits sh size c → Sooner (entryOf sh size c) e → ⊥
     no-sooner {size} {c} g s =
         elim (k .first size c g) [
@@ -126,7 +130,8 @@ demand sh w =
     record {
       refuses = (
         λ q M c s. none-fits sh w q (M .size) (code M sh) (structure-fits sh w M c s),
-        λ h. elim (found-or-none (answer sh)) [ inl q ↦ q | inr r ↦ absurd (hope h (r .0) (r .1)) ]);
+        λ h. elim (found-or-none (answer sh)) [ inl q ↦ q | inr r ↦ absurd (hope h (r .0) (r .1)) ],
+      );
       finds = answered;
     }
   where
@@ -135,5 +140,6 @@ demand sh w =
         let f : Fits sh (at (e .sizes)) (at (e .codes)) = chosen sh w e q .fits in
         answers-with sh w e q (unforced sh e)
         (unforced-in-tables sh e (λ s h. omega (arith, w .floor s h .0, f .bounded .floor s h)) w)
+
     hope : Hopeless sh → (e : Entry) → answer sh ≡ some e → ⊥
     hope h e q = let a : Answers sh e (structureOf sh e) = answered e q in h (structureOf sh e) (a .candidate) (a .satisfies)

@@ -4,4 +4,5 @@ pub mod Solving
 pub mod Listing
 pub mod Demand
 pub mod Outcomes
+pub mod Joint
 pub mod Worked

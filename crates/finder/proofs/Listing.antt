@@ -117,8 +117,9 @@ sorted-listing sh =
         (λ s m. Lists.sorted-map Before Sooner (entry s) (λ x y b. inr (refl, inr (refl, b))) (box (codeRanges sh s)) (sorted-box (codeRanges sh s)))
         (λ s t ms mt b u v mu mv. inr (
           of-sum sh n u (Lists.mem-each (entriesAt sh) s u (sizesOfSum sh n) ms mu) .total
-          ∙ sym (of-sum sh n v (Lists.mem-each (entriesAt sh) t v (sizesOfSum sh n) mt mv) .total),
-          inl (rw (of-sizes sh s u mu .0, of-sizes sh t v mv .0) b)))
+              ∙ sym (of-sum sh n v (Lists.mem-each (entriesAt sh) t v (sizesOfSum sh n) mt mv) .total),
+          inl (rw (of-sizes sh s u mu .0, of-sizes sh t v mv .0) b),
+        ))
 
 -- What fits stands in the listing and solves; what stands there and solves, fits.
 pub sum-firsts : (n : ℕ) (f : ℕ → ℕ) → sum (firsts n f) ≡ sumTo n f
@@ -146,10 +147,13 @@ fits-listed sh w size c f =
   where
     n : ℕ
     n = length (sh .bounds)
+
     m : ℕ
     m = length (sh .terms)
+
     in-bounds : (s : ℕ) → s < n → InRange (sizeRange (boundAt sh s)) (at (firsts n size) s)
     in-bounds s h = rw (at-firsts n size s h) (omega (arith, f .bounded .floor s h, f .bounded .ceiling s h))
+
     in-range : (i : ℕ) → i < m → InRange (codeRange sh (firsts n size) (termAt sh i)) (at (firsts m c) i)
     in-range i h =
         let there : sortAt sh i < n = w .result (termAt sh i .symbol) (w .symbol i h) in

@@ -53,9 +53,10 @@ module _ {A : Type 0} where
 
   pub sorted-append : (R : A → A → Type 0) (xs ys : List A) → Sorted R xs → Sorted R ys → ((x y : A) → Mem x xs → Mem y ys → R x y) → Sorted R (xs ++ ys)
   sorted-append R [] ys s t h = t
-  sorted-append R (x ∷ xs) ys s t h =
-      (λ y m. elim (mem-either y xs ys m) [ inl l ↦ s .0 y l | inr r ↦ h x y (inl refl) r ],
-      sorted-append R xs ys (s .1) t (λ a b l r. h a b (inr l) r))
+  sorted-append R (x ∷ xs) ys s t h = (
+    λ y m. elim (mem-either y xs ys m) [ inl l ↦ s .0 y l | inr r ↦ h x y (inl refl) r ],
+    sorted-append R xs ys (s .1) t (λ a b l r. h a b (inr l) r),
+  )
 
   pub sorted-keep : (R : A → A → Type 0) (p : A → Bool) (xs : List A) → Sorted R xs → Sorted R (keep p xs)
   sorted-keep R p [] s = tt
@@ -138,9 +139,10 @@ module _ {A B : Type 0} where
 
   pub sorted-map : (R : A → A → Type 0) (S : B → B → Type 0) (f : A → B) → ((x y : A) → R x y → S (f x) (f y)) → (xs : List A) → Sorted R xs → Sorted S (map f xs)
   sorted-map R S f h [] s = tt
-  sorted-map R S f h (x ∷ xs) s =
-      (λ y m. let q : (a : A) × Mem a xs × (y ≡ f a) = map-mem f y xs m in rw (q .2) (h x (q .0) (s .0 (q .0) (q .1))),
-      sorted-map R S f h xs (s .1))
+  sorted-map R S f h (x ∷ xs) s = (
+    λ y m. let q : (a : A) × Mem a xs × (y ≡ f a) = map-mem f y xs m in rw (q .2) (h x (q .0) (s .0 (q .0) (q .1))),
+    sorted-map R S f h xs (s .1),
+  )
 
   pub sorted-each : (R : A → A → Type 0) (S : B → B → Type 0) (f : A → List B) (xs : List A) → Sorted R xs → ((x : A) → Mem x xs → Sorted S (f x)) → ((x y : A) → Mem x xs → Mem y xs → R x y → (u v : B) → Mem u (f x) → Mem v (f y) → S u v) → Sorted S (each xs f)
   sorted-each R S f [] s t h = tt

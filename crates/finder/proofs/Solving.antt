@@ -145,13 +145,13 @@ pub solved : (sh : Sheet) (cs : List ℕ) → solves sh cs ≡ true → Solution
 unfolding solves
 solved sh cs e =
     let p : (functional (reachedCells sh cs) ≡ true) × (allHold (at cs) (sh .literals) ≡ true) =
-        both (functional (reachedCells sh cs)) (allHold (at cs) (sh .literals)) e in
+    both (functional (reachedCells sh cs)) (allHold (at cs) (sh .literals)) e in
     record {
       congruent = λ i j h k q r.
-        functional-all (reachedCells sh cs) (p .0) (cellOf (at cs) i (termAt sh i)) (cellOf (at cs) j (termAt sh j))
-        (cell-mem (at cs) 0 (sh .terms) i i h (omega arith))
-        (cell-mem (at cs) 0 (sh .terms) j j k (omega arith))
-        (ap₂ (λ (a : ℕ) (l : List ℕ). a ∷ l) q r);
+          functional-all (reachedCells sh cs) (p .0) (cellOf (at cs) i (termAt sh i)) (cellOf (at cs) j (termAt sh j))
+          (cell-mem (at cs) 0 (sh .terms) i i h (omega arith))
+          (cell-mem (at cs) 0 (sh .terms) j j k (omega arith))
+          (ap₂ (λ (a : ℕ) (l : List ℕ). a ∷ l) q r);
       meets = all-hold (at cs) (sh .literals) (p .1);
     }
 
@@ -189,7 +189,7 @@ solving sh cs s =
         let a : ReachedBy sh (at cs) x = reached-by sh (at cs) x m in
         let b : ReachedBy sh (at cs) y = reached-by sh (at cs) y n in
         let keys : termAt sh (a .number) .symbol ∷ map (at cs) (termAt sh (a .number) .args) ≡ termAt sh (b .number) .symbol ∷ map (at cs) (termAt sh (b .number) .args) =
-            sym (ap (λ (z : Cell). z .key) (a .is)) ∙ k ∙ ap (λ (z : Cell). z .key) (b .is) in
+        sym (ap (λ (z : Cell). z .key) (a .is)) ∙ k ∙ ap (λ (z : Cell). z .key) (b .is) in
         ap (λ (z : Cell). z .code) (a .is)
         ∙ s .congruent (a .number) (b .number) (a .there) (b .there) (cons-head _ _ _ _ keys) (cons-tail _ _ _ _ keys)
         ∙ sym (ap (λ (z : Cell). z .code) (b .is))
@@ -199,14 +199,15 @@ pub solution-same : (sh : Sheet) → WellFormed sh → (c d : ℕ → ℕ) → (
 solution-same sh w c d same s =
     record {
       congruent = λ i j h k p q.
-        sym (same i h) ∙ s .congruent i j h k p (args i h ∙ q ∙ sym (args j k)) ∙ same j k;
+          sym (same i h) ∙ s .congruent i j h k p (args i h ∙ q ∙ sym (args j k)) ∙ same j k;
       meets = λ k h.
-        held (literalAt sh k .equal) (c (literalAt sh k .left)) (c (literalAt sh k .right))
-        (same (literalAt sh k .left) (w .left k h)) (same (literalAt sh k .right) (w .right k h)) (s .meets k h);
+          held (literalAt sh k .equal) (c (literalAt sh k .left)) (c (literalAt sh k .right))
+          (same (literalAt sh k .left) (w .left k h)) (same (literalAt sh k .right) (w .right k h)) (s .meets k h);
     }
   where
     args : (i : ℕ) → i < length (sh .terms) → map c (termAt sh i .args) ≡ map d (termAt sh i .args)
     args i h = map-each c d (λ a. a < i) (λ a l. same a (omega arith)) (termAt sh i .args) (w .args i h)
+
     held : (b : Bool) (x y : ℕ) {x′ y′ : ℕ} → x ≡ x′ → y ≡ y′ → Agree b x y → Agree b x′ y′
     held b x y p q a = rw (← p, ← q) a
 

@@ -40,7 +40,7 @@ shown : (r : Row) (a : Option Entry) → Computed r a → Shows r
 unfolding finding codesAfter tablesAfter
 shown r a k cs ts h l =
     let o : outcome (r .sheet) (length cs) (length ts) ≡ answering (sheetOf r) a =
-        outcome-long (r .sheet) (sheetOf r) a (length cs) (length ts) (k .reads) (omega (arith, k .codesFit)) (omega (arith, k .tablesFit)) (k .answers) in
+    outcome-long (r .sheet) (sheetOf r) a (length cs) (length ts) (k .reads) (omega (arith, k .codesFit)) (omega (arith, k .tablesFit)) (k .answers) in
     record {
       result = ap finds o ∙ k .result;
       codes = ap (λ (x : Outcome). codesIn x cs) o ∙ k .codes cs;
@@ -100,20 +100,49 @@ eleventh =
 -- THEOREM: the worked sheets
 pub worked : All Shows rows
 unfolding answer solves reading readFrom cause unforced
-worked =
-    (plainly row1 refl (lit≤ tt) (lit≤ tt) refl (λ cs. refl) (λ ts. refl),
-    (plainly row2 refl (lit≤ tt) (lit≤ tt) refl (λ cs. refl) (λ ts. refl),
-    (plainly row3 refl (lit≤ tt) (lit≤ tt) refl (λ cs. refl) (λ ts. refl),
-    (plainly row4 refl (lit≤ tt) (lit≤ tt) refl (λ cs. refl) (λ ts. refl),
-    (plainly row5 refl (lit≤ tt) (lit≤ tt) refl (λ cs. refl) (λ ts. refl),
-    (plainly row6 refl (lit≤ tt) (lit≤ tt) refl (λ cs. refl) (λ ts. refl),
-    (plainly row7 refl (lit≤ tt) (lit≤ tt) refl (λ cs. refl) (λ ts. refl),
-    (plainly row8 refl (lit≤ tt) (lit≤ tt) refl (λ cs. refl) (λ ts. refl),
-    (plainly row9 refl (lit≤ tt) (lit≤ tt) refl (λ cs. refl) (λ ts. refl),
-    (plainly row10 refl (lit≤ tt) (lit≤ tt) refl (λ cs. refl) (λ ts. refl),
-    (eleventh,
-    (plainly row12 refl (lit≤ tt) (lit≤ tt) refl (λ cs. refl) (λ ts. refl),
-    (plainly row13 refl (lit≤ tt) (lit≤ tt) refl (λ cs. refl) (λ ts. refl),
-    (plainly row14 refl (lit≤ tt) (lit≤ tt) refl (λ cs. refl) (λ ts. refl),
-    (plainly printed refl (lit≤ tt) (lit≤ tt) refl (λ cs. refl) (λ ts. refl),
-    tt)))))))))))))))
+worked = (
+  plainly row1 refl (lit≤ tt) (lit≤ tt) refl (λ cs. refl) (λ ts. refl),
+  (
+    plainly row2 refl (lit≤ tt) (lit≤ tt) refl (λ cs. refl) (λ ts. refl),
+    (
+      plainly row3 refl (lit≤ tt) (lit≤ tt) refl (λ cs. refl) (λ ts. refl),
+      (
+        plainly row4 refl (lit≤ tt) (lit≤ tt) refl (λ cs. refl) (λ ts. refl),
+        (
+          plainly row5 refl (lit≤ tt) (lit≤ tt) refl (λ cs. refl) (λ ts. refl),
+          (
+            plainly row6 refl (lit≤ tt) (lit≤ tt) refl (λ cs. refl) (λ ts. refl),
+            (
+              plainly row7 refl (lit≤ tt) (lit≤ tt) refl (λ cs. refl) (λ ts. refl),
+              (
+                plainly row8 refl (lit≤ tt) (lit≤ tt) refl (λ cs. refl) (λ ts. refl),
+                (
+                  plainly row9 refl (lit≤ tt) (lit≤ tt) refl (λ cs. refl) (λ ts. refl),
+                  (
+                    plainly row10 refl (lit≤ tt) (lit≤ tt) refl (λ cs. refl) (λ ts. refl),
+                    (
+                      eleventh,
+                      (
+                        plainly row12 refl (lit≤ tt) (lit≤ tt) refl (λ cs. refl) (λ ts. refl),
+                        (
+                          plainly row13 refl (lit≤ tt) (lit≤ tt) refl (λ cs. refl) (λ ts. refl),
+                          (
+                            plainly row14 refl (lit≤ tt) (lit≤ tt) refl (λ cs. refl) (λ ts. refl),
+                            (
+                              plainly printed refl (lit≤ tt) (lit≤ tt) refl (λ cs. refl) (λ ts. refl),
+                              tt,
+                            ),
+                          ),
+                        ),
+                      ),
+                    ),
+                  ),
+                ),
+              ),
+            ),
+          ),
+        ),
+      ),
+    ),
+  ),
+)

@@ -48,6 +48,6 @@ not-after n f g h b =
     let long : length (firsts n g) ≡ n = length-firsts n g in
     let inside : p .place < n = omega arith in
     let le : f (p .place) ≤ g (p .place) =
-        h (p .place) inside
-        (λ i l. sym (at-firsts n f i (omega arith)) ∙ sym (p .agree i l) ∙ at-firsts n g i (omega arith)) in
+    h (p .place) inside
+    (λ i l. sym (at-firsts n f i (omega arith)) ∙ sym (p .agree i l) ∙ at-firsts n g i (omega arith)) in
     omega (arith, at-firsts n g (p .place) inside, at-firsts n f (p .place) inside, p .less)
