@@ -1,0 +1,8 @@
+pub mod Lists
+pub mod Boxes
+pub mod Solving
+pub mod Listing
+pub mod Demand
+pub mod Outcomes
+pub mod Joint
+pub mod Worked
