@@ -6,3 +6,4 @@ pub mod Demand
 pub mod Outcomes
 pub mod Joint
 pub mod Worked
+pub mod Reach
