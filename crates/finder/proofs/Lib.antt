@@ -7,3 +7,4 @@ pub mod Outcomes
 pub mod Joint
 pub mod Worked
 pub mod Reach
+pub mod Filling
