@@ -2,7 +2,7 @@
 use sheet::Parsed;
 ghost use mathlib.Core.Path.{_≡_};
 ghost use Prim.Native.Nat.{ℕ, _≤_, _<_};
-ghost use Rattle.logic.specs.Structure.{at};
+ghost use Rattle.logic.specs.Structure.{at, sumTo};
 ghost use Rattle.sheet.specs.Packed.{view};
 ghost use Rattle.finder.specs.Fill.{Filled};
 
@@ -36,4 +36,18 @@ fn symbol_table(p: Parsed, codes: [u8; 256], symbol: usize) -> [[u8; 16]; 16]
         }
     }
     t
+}
+
+// The sum of the first n sizes.
+fn sum_of(sizes: [u8; 8], n: usize) -> usize
+    requires { ⌜ n ≤ 8 ⌝ }
+    ensures { λ r. ⌜ r ≡ sumTo n (at sizes) ⌝ }
+{
+    let mut sum: usize = 0;
+    let mut s: usize = 0;
+    while s < n {
+        sum += wide(sizes[s]);
+        s += 1;
+    }
+    sum
 }
