@@ -5,4 +5,5 @@ pub mod Listing
 pub mod Demand
 pub mod Outcomes
 pub mod Joint
+pub mod Buffers
 pub mod Worked
