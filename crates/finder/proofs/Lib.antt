@@ -6,4 +6,5 @@ pub mod Demand
 pub mod Outcomes
 pub mod Joint
 pub mod Buffers
+pub mod Alike
 pub mod Worked

@@ -59,6 +59,7 @@ found-by s nc nt sh e q = read (reading s) refl q
     fitting : (b d : Bool) → (b || d) ≡ false → (b ≡ false) × (d ≡ false)
     fitting true d p = absurd (true≢false p)
     fitting false d p = (refl, p)
+
     found : (sh′ : Sheet) → reading s ≡ accepted sh′ → short sh′ nc nt ≡ false → (o : Option Entry) → answer sh′ ≡ o → answering sh′ o ≡ answered sh e → FoundBy s nc nt sh e
     found sh′ p f none a r = absurd (not-turned-down 11 0 sh e r)
     found sh′ p f (some e′) a r =
@@ -71,9 +72,11 @@ found-by s nc nt sh e q = read (reading s) refl q
           tablesFit = rw (← same) (ltb-false nt (extent sh′ (ceilings sh′)) (fit .1));
           answers = ap answer (sym same) ∙ a ∙ ap {B = Option Entry} some entry;
         }
+
     measured : (sh′ : Sheet) → reading s ≡ accepted sh′ → (b : Bool) → short sh′ nc nt ≡ b → branch sh′ b ≡ answered sh e → FoundBy s nc nt sh e
     measured sh′ p true f r = absurd (not-turned-down 10 0 sh e r)
     measured sh′ p false f r = found sh′ p f (answer sh′) refl r
+
     read : (x : Reading) → reading s ≡ x → consider x nc nt ≡ answered sh e → FoundBy s nc nt sh e
     read (refused n i) p r = absurd (not-turned-down n i sh e r)
     read (accepted sh′) p r = measured sh′ p (short sh′ nc nt) refl r

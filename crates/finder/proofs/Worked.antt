@@ -40,8 +40,8 @@ record Computed (r : Row) (a : Option Entry) : Type 0 where
 shown : (r : Row) (a : Option Entry) → Computed r a → Shows r
 shown r a k cs ts h l =
     let x : Exit (r .sheet) cs ts (answering (sheetOf r) a) =
-        exit (r .sheet) cs ts (answering (sheetOf r) a)
-        (outcome-long (r .sheet) (sheetOf r) a (length cs) (length ts) (k .reads) (omega (arith, k .codesFit)) (omega (arith, k .tablesFit)) (k .answers)) in
+    exit (r .sheet) cs ts (answering (sheetOf r) a)
+    (outcome-long (r .sheet) (sheetOf r) a (length cs) (length ts) (k .reads) (omega (arith, k .codesFit)) (omega (arith, k .tablesFit)) (k .answers)) in
     record { result = x .result ∙ k .result; codes = x .codes ∙ k .codes cs; tables = x .tables ∙ k .tables ts }
 
 -- x same f applied 3 times and 5 times: then x is the same as f(x)

@@ -33,11 +33,17 @@ pub record Entry : Type 0 where
   pub codes : List ℕ
 
 -- sizes from floor to ceiling (none, where a floor is above its ceiling), and codes below the size of the term's sort
+abbrev pub sizeRange : Bound → Range
+sizeRange b = record { least = b .floor; many = suc (b .ceiling) - b .floor }
+
+abbrev pub codeRange : Sheet → List ℕ → Term → Range
+codeRange sh sizes t = record { least = 0; many = at sizes (symbolAt sh (t .symbol) .result) }
+
 abbrev pub sizeRanges : Sheet → List Range
-sizeRanges sh = map (λ (b : Bound). record { least = b .floor; many = suc (b .ceiling) - b .floor }) (sh .bounds)
+sizeRanges sh = map sizeRange (sh .bounds)
 
 abbrev pub codeRanges : Sheet → List ℕ → List Range
-codeRanges sh sizes = map (λ (t : Term). record { least = 0; many = at sizes (symbolAt sh (t .symbol) .result) }) (sh .terms)
+codeRanges sh sizes = map (codeRange sh sizes) (sh .terms)
 
 abbrev pub sizesOfSum : Sheet → ℕ → List (List ℕ)
 sizesOfSum sh n = keep (λ sizes. eqb (sum sizes) n) (box (sizeRanges sh))
