@@ -8,3 +8,4 @@ pub mod Joint
 pub mod Buffers
 pub mod Alike
 pub mod Worked
+pub mod Reach
