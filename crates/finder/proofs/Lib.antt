@@ -7,5 +7,6 @@ pub mod Outcomes
 pub mod Joint
 pub mod Buffers
 pub mod Alike
+pub mod Encoding
 pub mod Worked
 pub mod Reach
