@@ -53,6 +53,9 @@ offset-same sh w size other h f l =
     (sumTo-same f (λ g. cells size (symbolAt sh g .params)) (λ g. cells other (symbolAt sh g .params))
     (λ g b. cells-same (length (sh .bounds)) size other (symbolAt sh g .params) (w .params g (omega arith)) h))
 
+pub extent-same : (sh : Sheet) → WellFormed sh → (size other : ℕ → ℕ) → ((s : ℕ) → s < length (sh .bounds) → size s ≡ other s) → extent sh size ≡ extent sh other
+extent-same sh w size other h = offset-same sh w size other h (length (sh .symbols)) (omega arith)
+
 -- larger sizes need no fewer bytes
 pub extent-monotone : (sh : Sheet) → WellFormed sh → (size other : ℕ → ℕ) → ((s : ℕ) → s < length (sh .bounds) → size s ≤ other s) → extent sh size ≤ extent sh other
 extent-monotone sh w size other h =
@@ -207,7 +210,7 @@ module _ (sh : Sheet) (w : WellFormed sh) (M : Structure) where
       record {
         sizes = omega (arith, length-encoded);
         size = λ s h. rw (encoded-size s h) (omega (arith, k .interprets .nonempty s h, k .bounded .ceiling s h, w .ceiling s h .1));
-        extent = length-encoded ∙ sym (offset-same sh w (at (encoded M sh)) (M .size) encoded-size (length (sh .symbols)) (omega arith));
+        extent = length-encoded ∙ sym (extent-same sh w (at (encoded M sh)) (M .size) encoded-size);
         entry = λ f h j l.
           let m : j < cells (M .size) (symbolAt sh f .params) = omega (arith, cells-same (length (sh .bounds)) (at (encoded M sh)) (M .size) (symbolAt sh f .params) (w .params f h) encoded-size) in
           rw (encoded-cell f j h m, encoded-size (symbolAt sh f .result) (w .result f h))

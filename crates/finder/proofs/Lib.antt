@@ -8,5 +8,6 @@ pub mod Joint
 pub mod Buffers
 pub mod Alike
 pub mod Encoding
+pub mod Delivery
 pub mod Worked
 pub mod Reach
