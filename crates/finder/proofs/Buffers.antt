@@ -1,12 +1,11 @@
 -- Every byte of a buffer with an answer in front: the answer's, then what stood there before.
 use Prim.Native.Nat.{ℕ, _≤_}
-use mathlib.Core.Path.{_≡_, ap, sym}
-use mathlib.Core.List.{List, _++_}
+use mathlib.Core.Path.{_≡_, refl, ap, sym, _∙_}
+use mathlib.Core.List.{List}
 use lib.ListN.{length, take, drop}
+use native.Mathlib.Omega.{arith}
 use lib.Seq.{length-front, length-take-le, take-append-seam, drop-append-seam}
-use Rattle.logic.specs.Sheet.{Sheet}
-use Rattle.tables.specs.Layout.{encoded}
-use Rattle.finder.specs.Answer.{Entry, sum, structureOf}
+use Rattle.finder.specs.Answer.{Entry, sum}
 use Rattle.finder.specs.Find.{Outcome, turnedDown, answered, outcome, finds, finding, fronted, codesIn, codesAfter, tablesIn, tablesAfter}
 use Rattle.finder.specs.declared.Finding.the-variants.{Found, Refused}
 
@@ -33,3 +32,14 @@ exit s cs ts o q =
       codes = ap (λ (x : Outcome). codesIn x cs) q;
       tables = ap (λ (x : Outcome). tablesIn x ts) q;
     }
+
+-- a refused call leaves both buffers as they were
+pub refused-untouched : (s cs ts : List ℕ) (n i : ℕ) → finding s (length cs) (length ts) ≡ Refused n i → (codesAfter s cs ts ≡ cs) × (tablesAfter s cs ts ≡ ts)
+refused-untouched s cs ts n i f = step (outcome s (length cs) (length ts)) refl
+  where
+    step : (o : Outcome) → outcome s (length cs) (length ts) ≡ o → (codesAfter s cs ts ≡ cs) × (tablesAfter s cs ts ≡ ts)
+    step (turnedDown m j) q = let x : Exit s cs ts (turnedDown m j) = exit s cs ts (turnedDown m j) q in (x .codes, x .tables)
+    step (answered sh e) q =
+        let r : Found (sum (e .sizes)) ≡ Refused n i = sym (exit s cs ts (answered sh e) q .result) ∙ f in
+        let z : _≡_ {A = ℕ} 0 1 = cc in
+        absurd (omega arith)

@@ -1,6 +1,7 @@
 -- Demand 3 of the bytes: what a call gives back and leaves in the buffers is the answer of the sheet, and only that.
 use Prim.Native.Nat.{ℕ, _≤_, _<_}
 use mathlib.Core.Path.{_≡_, refl, ap, sym, _∙_}
+use mathlib.Core.Logic.{inl, inr}
 use mathlib.Core.List.{List}
 use mathlib.Core.Option.{Option, none, some}
 use lib.ListN.{length, take, drop, List·getD-append}
@@ -15,6 +16,7 @@ use Rattle.finder.specs.Answer.{Entry, answer, sum, structureOf}
 use Rattle.finder.specs.Find.{ceilings, answering, finding, codesAfter, tablesAfter}
 use Rattle.finder.specs.Demand.{Answers, Delivered, Promised, codesWritten, tablesWritten}
 use Rattle.finder.specs.declared.Finding.the-variants.{Found, Refused}
+use Rattle.finder.proofs.Lists.{found-or-none}
 use Rattle.finder.proofs.Demand.{demand}
 use Rattle.finder.proofs.Outcomes.{outcome-long}
 use Rattle.finder.proofs.Buffers.{Exit, exit, front-fronted, rest-fronted}
@@ -111,6 +113,7 @@ module _ (sh : Sheet) (w : WellFormed sh) (s cs ts : List ℕ) (reads : reading 
   promised =
       record {
         refuses = (λ f. demand sh w .refuses .0 (refused-none f), λ h. exits none (demand sh w .refuses .1 h) .result);
+        either = elim (found-or-none (answer sh)) [ inl q ↦ inl (exits none q .result) | inr r ↦ inr (sum (r .0 .sizes), exits (some (r .0)) (r .1) .result) ];
         delivers = λ n f. let r : _ = found-is n f in rw (← r .2) (delivered (r .0) (r .1));
         behindCodes = λ n f. let r : _ = found-is n f in behind-codes (r .0) (r .1);
         behindTables = λ n f. let r : _ = found-is n f in behind-tables (r .0) (r .1);

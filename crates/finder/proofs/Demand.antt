@@ -11,9 +11,9 @@ use Rattle.logic.specs.Sheet.{Sheet, Symbol, Term, symbolAt, termAt, sortAt}
 use Rattle.logic.specs.WellFormed.{WellFormed}
 use Rattle.logic.specs.Structure.{Structure, InSorts, Interprets, Bounded, Candidate, Satisfies, codes, code, at, sumTo}
 use Rattle.logic.specs.Order.{firsts, Before, sizesOf, sumOf, Earlier}
-use Rattle.logic.proofs.Meaning.{code-below, code-congruent, codes-own, length-codes, firsts-at, firsts-same}
+use Rattle.logic.proofs.Meaning.{map-each, code-below, code-congruent, codes-own, length-codes, firsts-at, firsts-same}
 use Rattle.finder.specs.Answer.{Entry, Cell, cellOf, reachedCells, cellAt, structureWith, structureOf, unforced, answer, sum}
-use Rattle.finder.specs.Demand.{Answers, Demand, Hopeless, InTables}
+use Rattle.finder.specs.Demand.{Answers, Demand, Hopeless, Unreached, InTables}
 use Rattle.finder.proofs.Lists.{Mem, found-or-none}
 use Rattle.finder.proofs.Solving.{Solution, ReachedBy, reached-by, Kept, kept, not-kept, cell-mem, cons-head, cons-tail, solution-same}
 use Rattle.finder.proofs.Listing.{Fits, entryOf, Chosen, chosen, Ahead, Sooner, sooner-asym, none-fits, nothing-fits, sum-firsts}
@@ -61,6 +61,20 @@ module _ (sh : Sheet) (w : WellFormed sh) (e : Entry) (f : Fits sh (at (e .sizes
       let code-v : at (e .codes) (r .number) ≡ v = sym (ap (λ (x : Cell). x .code) (r .is)) ∙ k .coded in
       subst (λ (x : ℕ). x < at (e .sizes) (symbolAt sh g .result)) code-v
       (subst (λ (j : ℕ). at (e .codes) (r .number) < at (e .sizes) (symbolAt sh j .result)) same (f .range (r .number) (r .there)))
+
+  -- a cell that no term reaches holds what u says
+  pub made-unreached : (g : ℕ) (xs : List ℕ) → Unreached sh made g xs → made .table g xs ≡ u g xs
+  made-unreached g xs h = step (cellAt (g ∷ xs) (reachedCells sh (e .codes))) refl
+    where
+      step : (o : Option ℕ) → cellAt (g ∷ xs) (reachedCells sh (e .codes)) ≡ o → Option·getD o (u g xs) ≡ u g xs
+      step none q = refl
+      step (some v) q =
+          let k : Kept (g ∷ xs) (reachedCells sh (e .codes)) v = kept (g ∷ xs) (reachedCells sh (e .codes)) v q in
+          let r : ReachedBy sh (at (e .codes)) (k .cell) = reached-by sh (at (e .codes)) (k .cell) (k .member) in
+          let keys : cellOf (at (e .codes)) (r .number) (termAt sh (r .number)) .key ≡ g ∷ xs = sym (ap (λ (x : Cell). x .key) (r .is)) ∙ k .keyed in
+          let args : map (code made sh) (termAt sh (r .number) .args) ≡ map (at (e .codes)) (termAt sh (r .number) .args) =
+              map-each (code made sh) (at (e .codes)) (λ a. a < r .number) (λ a l. made-code a (omega (arith, r .there))) (termAt sh (r .number) .args) (w .args (r .number) (r .there)) in
+          absurd (h (r .number) (r .there) (cons-head _ _ _ _ keys) (args ∙ cons-tail _ _ _ _ keys))
 
   pub made-candidate : InTables sh (at (e .sizes)) u → Candidate made sh
   made-candidate t =
@@ -133,6 +147,7 @@ demand sh w =
         λ h. elim (found-or-none (answer sh)) [ inl q ↦ q | inr r ↦ absurd (hope h (r .0) (r .1)) ],
       );
       finds = answered;
+      unreached = λ e q. made-unreached sh w e (chosen sh w e q .fits) (unforced sh e);
     }
   where
     answered : (e : Entry) → answer sh ≡ some e → Answers sh e (structureOf sh e)

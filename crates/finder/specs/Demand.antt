@@ -2,15 +2,15 @@
 -- proofs/Demand.antt.
 use Prim.Native.Nat.{ℕ, _<_}
 use mathlib.Core.Path.{_≡_}
-use mathlib.Core.Logic.{_↔_}
-use mathlib.Core.List.{List}
+use mathlib.Core.Logic.{_↔_, _⊎_}
+use mathlib.Core.List.{List, map}
 use mathlib.Core.Option.{Option, none, some}
 use lib.ListN.{length, take, drop}
-use Rattle.logic.specs.Sheet.{Sheet, Symbol, symbolAt}
-use Rattle.logic.specs.Structure.{Structure, InSorts, Candidate, Satisfies, codes, at}
+use Rattle.logic.specs.Sheet.{Sheet, Symbol, Term, symbolAt, termAt}
+use Rattle.logic.specs.Structure.{Structure, InSorts, Candidate, Satisfies, codes, code, at}
 use Rattle.logic.specs.Order.{sizesOf, sumOf, Earlier}
 use Rattle.tables.specs.Layout.{extent, decoded, WellLaid}
-use Rattle.finder.specs.Answer.{Entry, answer, sum, structureOf}
+use Rattle.finder.specs.Answer.{Entry, answer, sum, structureOf, unforced}
 use Rattle.finder.specs.Find.{finding, codesAfter, tablesAfter}
 use Rattle.finder.specs.declared.Finding.the-variants.{Found, Refused}
 
@@ -28,11 +28,17 @@ pub record Answers (sh : Sheet) (e : Entry) (M : Structure) : Type 0 where
 abbrev pub Hopeless : Sheet → Type 0
 Hopeless sh = (M : Structure) → Candidate M sh → Satisfies M sh → ⊥
 
+-- no term reaches the cell of symbol f at the codes xs
+abbrev pub Unreached : Sheet → Structure → ℕ → List ℕ → Type 0
+Unreached sh M f xs = (i : ℕ) → i < length (sh .terms) → termAt sh i .symbol ≡ f → map (code M sh) (termAt sh i .args) ≡ xs → ⊥
+
 pub record Demand (sh : Sheet) : Type 0 where
   -- no answer (refusal 11) exactly when no candidate satisfies every statement
   pub refuses : (answer sh ≡ none) ↔ Hopeless sh
   -- otherwise the answer's tables are such a candidate, the earliest
   pub finds : (e : Entry) → answer sh ≡ some e → Answers sh e (structureOf sh e)
+  -- and a cell that no term reaches is unforced
+  pub unreached : (e : Entry) → answer sh ≡ some e → (f : ℕ) (xs : List ℕ) → Unreached sh (structureOf sh e) f xs → structureOf sh e .table f xs ≡ unforced sh e f xs
 
 -- The same of what a call leaves behind: the number it gives, the codes C and the tables T that it wrote. The tables are well laid, and
 -- the structure that they hold is a candidate that satisfies every statement; the sum and the codes are its own; none comes earlier.
@@ -51,10 +57,11 @@ codesWritten sh buffer = take (length (sh .terms)) buffer
 abbrev pub tablesWritten : Sheet → List ℕ → List ℕ
 tablesWritten sh buffer = take (extent sh (at buffer)) buffer
 
--- a call on an accepted sheet, with buffers that suffice: cause 11 exactly when no candidate satisfies every statement; where something
--- is found, it is delivered in front of both buffers, and no byte behind it is touched
+-- A call on an accepted sheet, with buffers that suffice: cause 11 exactly when no candidate satisfies every statement, and otherwise
+-- something is found; it is delivered in front of both buffers, and no byte behind it is touched
 pub record Promised (sh : Sheet) (s cs ts : List ℕ) : Type 0 where
   pub refuses : (finding s (length cs) (length ts) ≡ Refused 11 0) ↔ Hopeless sh
+  pub either : (finding s (length cs) (length ts) ≡ Refused 11 0) ⊎ ((n : ℕ) × (finding s (length cs) (length ts) ≡ Found n))
   pub delivers : (n : ℕ) → finding s (length cs) (length ts) ≡ Found n → Delivered sh n (codesWritten sh (codesAfter s cs ts)) (tablesWritten sh (tablesAfter s cs ts))
   pub behindCodes : (n : ℕ) → finding s (length cs) (length ts) ≡ Found n → drop (length (sh .terms)) (codesAfter s cs ts) ≡ drop (length (sh .terms)) cs
   pub behindTables : (n : ℕ) → finding s (length cs) (length ts) ≡ Found n → drop (extent sh (at (tablesAfter s cs ts))) (tablesAfter s cs ts) ≡ drop (extent sh (at (tablesAfter s cs ts))) ts
