@@ -1,14 +1,13 @@
 -- Two structures that agree on a sheet's sorts and cells answer it alike.
-use Prim.Native.Nat.{ℕ, _≤_, _<_}
-use mathlib.Core.Path.{_≡_, refl, ap, ap₂, sym, _∙_, subst}
-use mathlib.Core.Logic.{_⊎_, inl, inr}
+use Prim.Native.Nat.{ℕ, _<_}
+use mathlib.Core.Path.{_≡_, sym, _∙_, subst}
 use mathlib.Core.List.{List, [], _∷_, map}
 use lib.ListN.{length}
 use native.Mathlib.Omega.{arith}
-use Rattle.logic.specs.Sheet.{Sheet, Symbol, symbolAt, termAt, literalAt}
+use Rattle.logic.specs.Sheet.{Sheet, symbolAt, termAt, literalAt}
 use Rattle.logic.specs.WellFormed.{WellFormed, Each}
-use Rattle.logic.specs.Structure.{Structure, InSorts, Interprets, Bounded, Candidate, Satisfies, Holds, codes, code, at, sumTo}
-use Rattle.logic.specs.Order.{firsts, sizesOf, sumOf, Earlier}
+use Rattle.logic.specs.Structure.{Structure, InSorts, Interprets, Candidate, Holds, codes, code, at}
+use Rattle.logic.specs.Order.{sizesOf, sumOf}
 use Rattle.logic.proofs.Meaning.{code-is, code-below, codes-own, arguments-in-sorts, length-codes, firsts-at, firsts-same, sumTo-same}
 use Rattle.finder.specs.Answer.{Entry, sum}
 use Rattle.finder.specs.Demand.{Answers}

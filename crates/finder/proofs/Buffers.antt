@@ -5,7 +5,7 @@ use mathlib.Core.List.{List}
 use lib.ListN.{length, take, drop}
 use native.Mathlib.Omega.{arith}
 use lib.Seq.{length-front, length-take-le, take-append-seam, drop-append-seam}
-use Rattle.finder.specs.Answer.{Entry, sum}
+use Rattle.finder.specs.Answer.{sum}
 use Rattle.finder.specs.Find.{Outcome, turnedDown, answered, outcome, finds, finding, fronted, codesIn, codesAfter, tablesIn, tablesAfter}
 use Rattle.finder.specs.declared.Finding.the-variants.{Found, Refused}
 

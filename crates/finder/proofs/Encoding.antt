@@ -1,23 +1,22 @@
 -- The round trip of tables: what the bytes of a structure's tables hold is the structure again, on the sheet's sorts and cells; and they
 -- are well laid.
 use Prim.Native.Nat.{ℕ, zero, suc, _+_, _*_, _≤_, _<_}
-use mathlib.Core.Path.{_≡_, refl, ap, ap₂, sym, _∙_, subst}
-use mathlib.Core.Logic.{_⊎_, inl, inr}
+use mathlib.Core.Path.{_≡_, refl, ap, ap₂, sym, _∙_}
+use mathlib.Core.Logic.{inl, inr}
 use mathlib.Core.List.{List, [], _∷_, _++_, map}
 use lib.ListN.{length, getD, length-append, length-map, List·getD-append}
 use lib.Seq.{getD-append-add}
 use native.Mathlib.Nat.{suc-mul, mul-le-mul-right, mul-le-mul}
 use native.Mathlib.Omega.{arith}
-use Rattle.logic.specs.Sheet.{Sheet, Bound, Symbol, symbolAt, boundAt}
-use Rattle.logic.specs.WellFormed.{WellFormed, Each, Within}
-use Rattle.logic.specs.Structure.{Structure, InSorts, Interprets, Candidate, Bounded, at, sumTo}
+use Rattle.logic.specs.Sheet.{Sheet, Symbol, symbolAt}
+use Rattle.logic.specs.WellFormed.{WellFormed, Each}
+use Rattle.logic.specs.Structure.{Structure, InSorts, Candidate, at, sumTo}
 use Rattle.logic.specs.Order.{firsts}
 use Rattle.logic.specs.Box.{Range, run, fronts, box}
 use Rattle.logic.proofs.Meaning.{length-firsts, at-firsts, sumTo-same}
 use Rattle.tables.specs.Layout.{cells, place, offset, extent, decoded, tableBytes, tablesFrom, encoded, WellLaid}
-use Rattle.finder.specs.Find.{ceilings}
 use Rattle.finder.proofs.Lists.{Mem}
-use Rattle.finder.proofs.Boxes.{InBox, mem-box}
+use Rattle.finder.proofs.Boxes.{InBox, mem-box, headed}
 use Rattle.finder.proofs.Alike.{Alike}
 
 -- cells and places (moves to the tables' laws)
@@ -59,8 +58,11 @@ extent-same sh w size other h = offset-same sh w size other h (length (sh .symbo
 -- larger sizes need no fewer bytes
 pub extent-monotone : (sh : Sheet) → WellFormed sh → (size other : ℕ → ℕ) → ((s : ℕ) → s < length (sh .bounds) → size s ≤ other s) → extent sh size ≤ extent sh other
 extent-monotone sh w size other h =
-    omega (arith, sumTo-monotone (length (sh .symbols)) (λ g. cells size (symbolAt sh g .params)) (λ g. cells other (symbolAt sh g .params))
-    (λ g b. cells-monotone (length (sh .bounds)) size other (symbolAt sh g .params) (w .params g b) h))
+    omega (
+      arith,
+      sumTo-monotone (length (sh .symbols)) (λ g. cells size (symbolAt sh g .params)) (λ g. cells other (symbolAt sh g .params))
+          (λ g b. cells-monotone (length (sh .bounds)) size other (symbolAt sh g .params) (w .params g b) h),
+    )
 
 -- Entries of lists by place.
 getD-map-in : {A B : Type 0} (f : A → B) (l : List A) (k : ℕ) (d : A) (d′ : B) → k < length l → getD (map f l) k d′ ≡ f (getD l k d)
@@ -76,9 +78,6 @@ getD-mem (x ∷ l) (suc k) d h = inr (getD-mem l k d (omega arith))
 length-run : (least many : ℕ) → length (run least many) ≡ many
 length-run least zero = refl
 length-run least (suc many) = ap suc (length-run (suc least) many)
-
-abbrev headed : ℕ → List ℕ → List ℕ
-headed x l = x ∷ l
 
 length-fronts : (xs : List ℕ) (tails : List (List ℕ)) → length (fronts xs tails) ≡ length xs * length tails
 length-fronts [] tails = omega arith
@@ -166,7 +165,7 @@ module _ (M : Structure) where
       ∙ ap (λ (f : ℕ). at (tableBytes M f (g .params)) j) (sym same)
   tables-at b (g ∷ gs) (suc k) m j h e l =
       let behind : sumTo (suc k) (manyOf (g ∷ gs)) + j ≡ length (tableBytes M b (g .params)) + (sumTo k (manyOf gs) + j) =
-          omega (arith, length-table b (g .params), sumTo-front k (manyOf (g ∷ gs))) in
+      omega (arith, length-table b (g .params), sumTo-front k (manyOf (g ∷ gs))) in
       ap (at (tablesFrom M b (g ∷ gs))) behind
       ∙ getD-append-add (tableBytes M b (g .params)) (tablesFrom M (suc b) gs) (sumTo k (manyOf gs) + j) 0
       ∙ tables-at (suc b) gs k m j (omega arith) (omega arith) l
@@ -187,7 +186,7 @@ module _ (sh : Sheet) (w : WellFormed sh) (M : Structure) where
   encoded-cell f j h l =
       let n : ℕ = length (sh .bounds) in
       let behind : offset sh (at (encoded M sh)) f + j ≡ length (firsts n (M .size)) + (sumTo f (manyOf M (sh .symbols)) + j) =
-          omega (arith, offset-same sh w (at (encoded M sh)) (M .size) encoded-size f (omega arith), length-firsts n (M .size)) in
+      omega (arith, offset-same sh w (at (encoded M sh)) (M .size) encoded-size f (omega arith), length-firsts n (M .size)) in
       ap (at (encoded M sh)) behind
       ∙ getD-append-add (firsts n (M .size)) (tablesFrom M 0 (sh .symbols)) (sumTo f (manyOf M (sh .symbols)) + j) 0
       ∙ tables-at M 0 (sh .symbols) f f j h (omega arith) l
@@ -199,10 +198,10 @@ module _ (sh : Sheet) (w : WellFormed sh) (M : Structure) where
       record {
         size = encoded-size;
         table = λ f h cs i.
-          ap (λ (p : ℕ). at (encoded M sh) (offset sh (at (encoded M sh)) f + p))
-          (place-same (length (sh .bounds)) (at (encoded M sh)) (M .size) (symbolAt sh f .params) cs (w .params f h) encoded-size)
-          ∙ encoded-cell f (place (M .size) (symbolAt sh f .params) cs) h (place-below (M .size) (symbolAt sh f .params) cs i)
-          ∙ ap (M .table f) (box-place (M .size) (symbolAt sh f .params) cs i);
+            ap (λ (p : ℕ). at (encoded M sh) (offset sh (at (encoded M sh)) f + p))
+            (place-same (length (sh .bounds)) (at (encoded M sh)) (M .size) (symbolAt sh f .params) cs (w .params f h) encoded-size)
+            ∙ encoded-cell f (place (M .size) (symbolAt sh f .params) cs) h (place-below (M .size) (symbolAt sh f .params) cs i)
+            ∙ ap (M .table f) (box-place (M .size) (symbolAt sh f .params) cs i);
       }
 
   pub encoded-laid : Candidate M sh → WellLaid sh (encoded M sh)
@@ -212,10 +211,10 @@ module _ (sh : Sheet) (w : WellFormed sh) (M : Structure) where
         size = λ s h. rw (encoded-size s h) (omega (arith, k .interprets .nonempty s h, k .bounded .ceiling s h, w .ceiling s h .1));
         extent = length-encoded ∙ sym (extent-same sh w (at (encoded M sh)) (M .size) encoded-size);
         entry = λ f h j l.
-          let m : j < cells (M .size) (symbolAt sh f .params) = omega (arith, cells-same (length (sh .bounds)) (at (encoded M sh)) (M .size) (symbolAt sh f .params) (w .params f h) encoded-size) in
-          rw (encoded-cell f j h m, encoded-size (symbolAt sh f .result) (w .result f h))
-          (k .interprets .complete f h (getD (lists M (symbolAt sh f .params)) j [])
-          (box-in-sorts (M .size) (symbolAt sh f .params) (getD (lists M (symbolAt sh f .params)) j [])
-          (mem-box (map (rangeOf (M .size)) (symbolAt sh f .params)) (getD (lists M (symbolAt sh f .params)) j [])
-          (getD-mem (lists M (symbolAt sh f .params)) j [] (omega (arith, length-cells (M .size) (symbolAt sh f .params)))))));
+            let m : j < cells (M .size) (symbolAt sh f .params) = omega (arith, cells-same (length (sh .bounds)) (at (encoded M sh)) (M .size) (symbolAt sh f .params) (w .params f h) encoded-size) in
+            rw (encoded-cell f j h m, encoded-size (symbolAt sh f .result) (w .result f h))
+            (k .interprets .complete f h (getD (lists M (symbolAt sh f .params)) j [])
+            (box-in-sorts (M .size) (symbolAt sh f .params) (getD (lists M (symbolAt sh f .params)) j [])
+            (mem-box (map (rangeOf (M .size)) (symbolAt sh f .params)) (getD (lists M (symbolAt sh f .params)) j [])
+            (getD-mem (lists M (symbolAt sh f .params)) j [] (omega (arith, length-cells (M .size) (symbolAt sh f .params)))))));
       }

@@ -3,14 +3,14 @@
 use Prim.Native.Nat.{ℕ, zero, suc, _≤_, _<_}
 use mathlib.Core.Path.{_≡_, refl, ap, ap₂, sym, _∙_, subst}
 use mathlib.Core.Bool.{Bool, true, false}
-use mathlib.Core.Logic.{_⊎_, inl, inr}
+use mathlib.Core.Logic.{inl, inr}
 use mathlib.Core.List.{List, [], _∷_, map}
-use mathlib.Core.Option.{Option, none, some}
+use mathlib.Core.Option.{none, some}
 use lib.ListN.{length, getD, length-map, List·getD-map, List·getD-eq-default}
 use native.Mathlib.Omega.{arith}
-use Rattle.logic.specs.Sheet.{Sheet, Bound, Symbol, Term, Literal, boundAt, symbolAt, termAt, literalAt, sortAt}
-use Rattle.logic.specs.WellFormed.{WellFormed, Each, Within}
-use Rattle.logic.specs.Structure.{at, sumTo, Bounded, Agree, Holds}
+use Rattle.logic.specs.Sheet.{Sheet, symbolAt, termAt, literalAt, sortAt}
+use Rattle.logic.specs.WellFormed.{WellFormed, Each}
+use Rattle.logic.specs.Structure.{at, sumTo, Bounded, Agree}
 use Rattle.logic.specs.Order.{Before, firsts, NotAfter}
 use Rattle.logic.specs.Problem.{Problem, WellSorted, Allowed, Consistent, Unsatisfiable, Least}
 use Rattle.logic.proofs.Meaning.{length-firsts, at-firsts, firsts-same, sumTo-same}
@@ -19,11 +19,11 @@ use Rattle.sheet.specs.Packed.{first, second, bit}
 use Rattle.sheet.specs.Views.{Views}
 use Rattle.sheet.specs.Layout.{accepted, reading}
 use Rattle.tables.specs.Layout.{extent}
-use Rattle.finder.specs.Answer.{Entry, answer, sum}
+use Rattle.finder.specs.Answer.{answer, sum}
 use Rattle.finder.specs.Find.{turnedDown, answered, ceilings, outcome}
-use Rattle.finder.proofs.Solving.{Solution, solution-same}
+use Rattle.finder.proofs.Solving.{solution-same}
 use Rattle.finder.proofs.Outcomes.{outcome-long}
-use Rattle.finder.proofs.Listing.{Fits, entryOf, Sooner, Ahead, sum-firsts, nothing-fits, soonest}
+use Rattle.finder.proofs.Listing.{Fits, entryOf, Sooner, sum-firsts, nothing-fits, soonest}
 
 -- Arguments by place: the one at place k, 255 where it is missing.
 abbrev argument : List ℕ → ℕ → ℕ

@@ -8,12 +8,12 @@ use mathlib.Core.Option.{Option, none}
 use lib.ListN.{length}
 use lib.Dec.{lit<, lit≤}
 use native.Mathlib.Omega.{arith}
-use Rattle.logic.specs.Sheet.{Sheet, Bound, Symbol, Term, Literal}
+use Rattle.logic.specs.Sheet.{Sheet, Bound, Symbol}
 use Rattle.sheet.specs.Layout.{Reading, accepted, refused, empty, reading, readFrom, cause}
 use Rattle.tables.specs.Layout.{extent}
 use Rattle.finder.specs.Answer.{Entry, answer, solves, unforced}
-use Rattle.finder.specs.Find.{Outcome, ceilings, answering, outcome, finds, finding, fronted, codesIn, codesAfter, tablesIn, tablesAfter}
-use Rattle.finder.specs.Worked.{Row, row1, row2, row3, row4, row5, row6, row7, row8, row9, row10, row11, row12, row13, row14, printed, rows, Shown, Shows, All, mostCodes, mostTables}
+use Rattle.finder.specs.Find.{ceilings, answering, finds, fronted, codesIn, tablesIn}
+use Rattle.finder.specs.Worked.{Row, row1, row2, row3, row4, row5, row6, row7, row8, row9, row10, row11, row12, row13, row14, printed, rows, Shows, All, mostCodes, mostTables}
 use Rattle.finder.proofs.Solving.{Solution}
 use Rattle.finder.proofs.Listing.{unsolvable}
 use Rattle.finder.proofs.Outcomes.{outcome-long}

@@ -1,12 +1,12 @@
 -- The answer to a sheet, by definition: the first entry of a plain listing that solves the sheet (document 01, "Which answer"), and
 -- the structure that it stands for. How the answer is found plays no part here.
 use Prim.Native.Nat.{ℕ, suc, _-_}
-use mathlib.Core.Bool.{Bool, true, false, not, _&&_, _||_}
+use mathlib.Core.Bool.{Bool, true, not, _&&_, _||_}
 use mathlib.Core.List.{List, [], _∷_, _++_, map}
 use mathlib.Core.Option.{Option, none, some, Option·getD}
 use lib.ListN.{length}
 use lib.Dec.{eqb}
-use Rattle.logic.specs.Sheet.{Sheet, Bound, Symbol, Term, Literal, symbolAt}
+use Rattle.logic.specs.Sheet.{Sheet, Bound, Term, Literal, symbolAt}
 use Rattle.logic.specs.Structure.{Structure, at, sumTo}
 use Rattle.logic.specs.Box.{Range, run, box}
 use Rattle.sheet.specs.Layout.{if, sameList}

@@ -4,9 +4,9 @@ use Prim.Native.Nat.{ℕ, _<_}
 use mathlib.Core.Path.{_≡_}
 use mathlib.Core.Logic.{_↔_, _⊎_}
 use mathlib.Core.List.{List, map}
-use mathlib.Core.Option.{Option, none, some}
+use mathlib.Core.Option.{none, some}
 use lib.ListN.{length, take, drop}
-use Rattle.logic.specs.Sheet.{Sheet, Symbol, Term, symbolAt, termAt}
+use Rattle.logic.specs.Sheet.{Sheet, symbolAt, termAt}
 use Rattle.logic.specs.Structure.{Structure, InSorts, Candidate, Satisfies, codes, code, at}
 use Rattle.logic.specs.Order.{sizesOf, sumOf, Earlier}
 use Rattle.tables.specs.Layout.{extent, decoded, WellLaid}
