@@ -1,12 +1,12 @@
 -- The answer to a sheet, by definition: the first entry of a plain listing that solves the sheet (document 01, "Which answer"), and
 -- the structure that it stands for. How the answer is found plays no part here.
 use Prim.Native.Nat.{ℕ, suc, _-_}
-use mathlib.Core.Bool.{Bool, true, false, not, _&&_, _||_}
+use mathlib.Core.Bool.{Bool, true, not, _&&_, _||_}
 use mathlib.Core.List.{List, [], _∷_, _++_, map}
 use mathlib.Core.Option.{Option, none, some, Option·getD}
 use lib.ListN.{length}
 use lib.Dec.{eqb}
-use Rattle.logic.specs.Sheet.{Sheet, Bound, Symbol, Term, Literal, symbolAt}
+use Rattle.logic.specs.Sheet.{Sheet, Bound, Term, Literal, symbolAt}
 use Rattle.logic.specs.Structure.{Structure, at, sumTo}
 use Rattle.logic.specs.Box.{Range, run, box}
 use Rattle.sheet.specs.Layout.{if, sameList}
@@ -33,11 +33,17 @@ pub record Entry : Type 0 where
   pub codes : List ℕ
 
 -- sizes from floor to ceiling (none, where a floor is above its ceiling), and codes below the size of the term's sort
+abbrev pub sizeRange : Bound → Range
+sizeRange b = record { least = b .floor; many = suc (b .ceiling) - b .floor }
+
+abbrev pub codeRange : Sheet → List ℕ → Term → Range
+codeRange sh sizes t = record { least = 0; many = at sizes (symbolAt sh (t .symbol) .result) }
+
 abbrev pub sizeRanges : Sheet → List Range
-sizeRanges sh = map (λ (b : Bound). record { least = b .floor; many = suc (b .ceiling) - b .floor }) (sh .bounds)
+sizeRanges sh = map sizeRange (sh .bounds)
 
 abbrev pub codeRanges : Sheet → List ℕ → List Range
-codeRanges sh sizes = map (λ (t : Term). record { least = 0; many = at sizes (symbolAt sh (t .symbol) .result) }) (sh .terms)
+codeRanges sh sizes = map (codeRange sh sizes) (sh .terms)
 
 abbrev pub sizesOfSum : Sheet → ℕ → List (List ℕ)
 sizesOfSum sh n = keep (λ sizes. eqb (sum sizes) n) (box (sizeRanges sh))
