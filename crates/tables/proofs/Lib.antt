@@ -1,3 +1,4 @@
 pub mod Tests
 pub mod Cells
 pub mod Judged
+pub mod Arrays
