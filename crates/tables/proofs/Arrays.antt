@@ -108,11 +108,11 @@ module _ (sh : Sheet) (p : Parsed) (k : Packs sh p) where
       rw (param0-packed f h, param1-packed f h) (cells-by-width size (symbolAt sh f .params) (k .formed .arity f h) (params-below-8 f h))
 
 -- one more number is copied
-pub copied-more : (l t : List ℕ) (i : ℕ) → i < length l → ((k : ℕ) → k < i → at l k ≡ at t k) → (k : ℕ) → k < i + 1 → at (set l i (at t i)) k ≡ at t k
-copied-more l t i h c k b =
+pub copied-more : (l t : List ℕ) (i v : ℕ) → i < length l → v ≡ at t i → ((k : ℕ) → k < i → at l k ≡ at t k) → (k : ℕ) → k < i + 1 → at (set l i v) k ≡ at t k
+copied-more l t i v h e c k b =
     elim (decLt k i) [
-      | yes x ↦ getD-set-other l i k (at t i) 0 (omega arith) ∙ c k x
-      | no x ↦ let e : k ≡ i = omega arith in rw e (getD-set-same l i (at t i) 0 h)
+      | yes x ↦ getD-set-other l i k v 0 (omega arith) ∙ c k x
+      | no x ↦ let q : k ≡ i = omega arith in rw q (getD-set-same l i v 0 h ∙ e)
     ]
 
 -- the offsets up to that of table f
@@ -142,9 +142,9 @@ unfolding packed
 offsets-none p size h =
     record {
       offset = λ sh k g l.
-        let e : g ≡ 0 = omega arith in
-        let s : p .sorts ≡ length (sh .bounds) = ap (λ (q : Parsed). q .sorts) (k .same) in
-        rw (e, s) (omega arith);
+          let e : g ≡ 0 = omega arith in
+          let s : p .sorts ≡ length (sh .bounds) = ap (λ (q : Parsed). q .sorts) (k .same) in
+          rw (e, s) (omega arith);
       here = omega arith;
       small = set-small (replicate 65 0) 0 (p .sorts) 4161608 (λ j. rw (at-zeros 65 j) (omega arith)) (omega arith);
     }
@@ -156,13 +156,13 @@ offsets-more p size f offsets many o n h l c =
     let big : v ≤ 8 + 65025 * (f + 1) = omega (arith, o .here, c .small) in
     record {
       offset = λ sh k g b.
-        let there : f < length (sh .symbols) = omega (arith, symbols-packed sh p k) in
-        elim (decLt g (f + 1)) [
-          | yes y ↦ getD-set-other offsets (f + 1) g v 0 (omega arith) ∙ o .offset sh k g (omega arith)
-          | no y ↦
-              let e : g ≡ f + 1 = omega arith in
-              rw (e, now, add-one f) (omega (arith, o .offset sh k f (omega arith), c .cells sh k there))
-        ];
+          let there : f < length (sh .symbols) = omega (arith, symbols-packed sh p k) in
+          elim (decLt g (f + 1)) [
+            | yes y ↦ getD-set-other offsets (f + 1) g v 0 (omega arith) ∙ o .offset sh k g (omega arith)
+            | no y ↦
+                let e : g ≡ f + 1 = omega arith in
+                rw (e, now, add-one f) (omega (arith, o .offset sh k f (omega arith), c .cells sh k there))
+          ];
       here = rw now big;
       small = set-small offsets (f + 1) v 4161608 (o .small) (omega arith);
     }
@@ -179,7 +179,7 @@ entries-test sh p sizes offsets t f many y h c =
     let m : many ≡ cells (at t) (symbolAt sh f .params) = c .cells sh (y .packs) h ∙ cells-same n (at sizes) (at t) (symbolAt sh f .params) (w .params f h) (y .size) in
     let o : at offsets f ≡ offset sh (at t) f = y .offset f (omega arith) ∙ offset-same sh w (at sizes) (at t) (y .size) f (omega arith) in
     let r : width (at sizes) (at (p .result) f) ≡ at t (symbolAt sh f .result) =
-        rw (result-packed sh p (y .packs) f h) (width-there (at sizes) (symbolAt sh f .result) (omega (arith, w .result f h, w .sorts .1)) ∙ y .size (symbolAt sh f .result) (w .result f h)) in
+    rw (result-packed sh p (y .packs) f h) (width-there (at sizes) (symbolAt sh f .result) (omega (arith, w .result f h, w .sorts .1)) ∙ y .size (symbolAt sh f .result) (w .result f h)) in
     rw (m, o, r) refl
 
 -- the entries of the first f tables are right
@@ -211,10 +211,10 @@ bounds-more p size s total b h lo hi =
     record {
       sum = rw (add-one s) (omega (arith, b .sum));
       within = λ sh k.
-        let v = seen sh p k in
-        let l : s < length (sh .bounds) = omega (arith, v .sorts) in
-        every-more s (λ x. within (boundAt sh x .floor) (boundAt sh x .ceiling) (size x)) (b .within sh k)
-        (true-within (boundAt sh s .floor) (boundAt sh s .ceiling) (size s) (omega (arith, v .floor s l), omega (arith, v .ceiling s l)));
+          let v = seen sh p k in
+          let l : s < length (sh .bounds) = omega (arith, v .sorts) in
+          every-more s (λ x. within (boundAt sh x .floor) (boundAt sh x .ceiling) (size x)) (b .within sh k)
+          (true-within (boundAt sh s .floor) (boundAt sh s .ceiling) (size s) (omega (arith, v .floor s l), omega (arith, v .ceiling s l)));
     }
 
 pub bounds-floor : (sh : Sheet) (p : Parsed) (size : ℕ → ℕ) (s : ℕ) → Packs sh p → s < p .sorts → size s < at (p .floor) s → inBounds sh size ≡ false
@@ -263,22 +263,22 @@ code-now p sizes offsets t i codes v c h l e sh y =
     let many : length args ≡ length params = sym (length-map args (sortAt sh)) ∙ ap length (w .argSorts i b) in
     let z : at codes 255 ≡ 0 = c .none 255 (omega arith) in
     let there : v ≡ at t (at offsets f + (at codes (first args) * width (at sizes) (second params) + at codes (second args))) =
-        rw (s .symbol i b, param1-packed sh p k f g, s .arg0 i b, s .arg1 i b) at (e (rw (s .symbol i b) (omega (arith, w .symbols)))) in
+    rw (s .symbol i b, param1-packed sh p k f g, s .arg0 i b, s .arg1 i b) at (e (rw (s .symbol i b) (omega (arith, w .symbols)))) in
     let start : at offsets f ≡ offset sh (at t) f = y .offset f (omega arith) ∙ offset-same sh w (at sizes) (at t) (y .size) f (omega arith) in
     let spot : at codes (first args) * width (at sizes) (second params) + at codes (second args) ≡ place (at t) params (map (code (decoded sh t) sh) args) =
-        place-by-width (at sizes) (at codes) params args (w .arity f g) many (params-below-8 sh p k f g) z
-        ∙ place-same (length (sh .bounds)) (at sizes) (at t) params (map (at codes) args) (w .params f g) (y .size)
-        ∙ ap (place (at t) params) (map-below i (at codes) (code (decoded sh t) sh) args (w .args i b) (c .code sh y)) in
+    place-by-width (at sizes) (at codes) params args (w .arity f g) many (params-below-8 sh p k f g) z
+    ∙ place-same (length (sh .bounds)) (at sizes) (at t) params (map (at codes) args) (w .params f g) (y .size)
+    ∙ ap (place (at t) params) (map-below i (at codes) (code (decoded sh t) sh) args (w .args i b) (c .code sh y)) in
     there ∙ ap₂ (λ (m x : ℕ). at t (m + x)) start spot ∙ sym (code-is-cell (decoded sh t) sh w i b)
 
 pub codes-more : (p : Parsed) (sizes offsets t : List ℕ) (i : ℕ) (codes : List ℕ) (f x y v : ℕ) → CodesTo p sizes offsets t i codes → length codes ≡ 256 → i < p .terms → p .terms ≤ 128 → f ≡ at (p .symbol) i → x ≡ at codes (at (p .arg0) i) → y ≡ at codes (at (p .arg1) i) → (f < 64 → v ≡ at t (at offsets f + (x * width (at sizes) (at (p .param1) f) + y))) → CodesTo p sizes offsets t (i + 1) (set codes i v)
 codes-more p sizes offsets t i codes f x y v c n h l ef ex ey e =
     record {
       code = λ sh k j b.
-        elim (decLt j i) [
-          | yes z ↦ getD-set-other codes i j v 0 (omega arith) ∙ c .code sh k j z
-          | no z ↦ let q : j ≡ i = omega arith in rw q (getD-set-same codes i v 0 (omega arith) ∙ code-now p sizes offsets t i codes v c h l (λ b′. rw (ef, ex, ey) at (e (rw ef b′))) sh k)
-        ];
+          elim (decLt j i) [
+            | yes z ↦ getD-set-other codes i j v 0 (omega arith) ∙ c .code sh k j z
+            | no z ↦ let q : j ≡ i = omega arith in rw q (getD-set-same codes i v 0 (omega arith) ∙ code-now p sizes offsets t i codes v c h l (λ b′. rw (ef, ex, ey) at (e (rw ef b′))) sh k)
+          ];
       none = λ j b. getD-set-other codes i j v 0 (omega arith) ∙ c .none j (omega arith);
     }
 

@@ -2,3 +2,4 @@ pub mod Tests
 pub mod Cells
 pub mod Judged
 pub mod Arrays
+pub mod Whole

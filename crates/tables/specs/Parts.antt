@@ -12,7 +12,7 @@ use Rattle.sheet.specs.Layout.{if}
 use Rattle.sheet.specs.Packed.{packed}
 use Rattle.sheet.specs.declared.Parsed.{Parsed}
 use Rattle.tables.specs.Layout.{cells, offset, decoded}
-use Rattle.tables.specs.Judge.{every, entriesRight}
+use Rattle.tables.specs.Judge.{every, entriesRight, Stretch}
 
 -- the parsed sheet stands for an accepted sheet
 pub record Packs (sh : Sheet) (p : Parsed) : Type 0 where
@@ -48,3 +48,8 @@ pub record Laying (sh : Sheet) (p : Parsed) (sizes offsets t : List ℕ) : Type 
   pub packs : Packs sh p
   pub size : (s : ℕ) → s < length (sh .bounds) → at sizes s ≡ at t s
   pub offset : (f : ℕ) → f ≤ length (sh .symbols) → at offsets f ≡ offset sh (at sizes) f
+
+-- a stretch by its start and its end
+pub record Spans (start end : ℕ) (s : Stretch) : Type 0 where
+  pub begins : start ≡ s .start
+  pub ends : end ≡ s .start + s .many

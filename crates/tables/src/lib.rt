@@ -9,8 +9,8 @@ ghost use Rattle.logic.specs.Sheet.{Sheet};
 ghost use Rattle.logic.specs.Structure.{at, code};
 ghost use Rattle.sheet.specs.Layout.{within};
 ghost use Rattle.tables.specs.Layout.{decoded};
-ghost use Rattle.tables.specs.Judge.{every, entriesRight, inBounds, agree, statements, judged};
-ghost use Rattle.tables.specs.Parts.{Packs, Limited, width, CellsOf, Small, Extents, Laying};
+ghost use Rattle.tables.specs.Judge.{every, entriesRight, inBounds, agree, statements, wellLaid, judged, stretchOf};
+ghost use Rattle.tables.specs.Parts.{Packs, Limited, width, CellsOf, Small, Extents, Laying, Spans};
 
 // The answer to the question "judge".
 pub enum Judgement {
@@ -98,13 +98,13 @@ fn sizes_right(n: usize, t: &[u8]) -> bool
 
 // The sizes that stand in front of the tables.
 fn sizes_of(n: usize, t: &[u8]) -> [u8; 8]
-    requires { ⌜ (n ≤ 8) × (n ≤ length (now t)) ⌝ }
+    requires { ⌜ n ≤ 8 ⌝ }
     ensures { λ r. ⌜ ((s : ℕ) → s < n → at r s ≡ at (now (t .entry)) s) ⌝ }
 {
     let mut sizes = [0u8; 8];
     let mut s: usize = 0;
     while s < n {
-        sizes[s] = t[s];
+        sizes[s] = byte_at(t, s);
         s += 1;
     }
     sizes
@@ -171,7 +171,15 @@ fn in_bounds(p: Parsed, sizes: [u8; 8]) -> bool
 }
 
 // What the table of symbol f holds at two argument codes, a missing one being 0.
-fn cell(param1: [u8; 64], sizes: [u8; 8], offsets: [usize; 65], t: &[u8], f: usize, a: usize, b: usize) -> u8
+fn cell(
+    param1: [u8; 64],
+    sizes: [u8; 8],
+    offsets: [usize; 65],
+    t: &[u8],
+    f: usize,
+    a: usize,
+    b: usize,
+) -> u8
     requires { ⌜ Small offsets × (a < 256) × (b < 256) ⌝ }
     ensures { λ r. ⌜ (f < 64 → r ≡ at (now (t .entry)) (at offsets f + (a * width (at sizes) (at param1 f) + b))) ⌝ }
 {
@@ -231,4 +239,69 @@ fn first_broken(p: Parsed, codes: [u8; 256]) -> Judgement
         k += 1;
     }
     Judgement::Fits
+}
+
+// Cause 12 does not apply: sizes, length and entries are right.
+fn well_laid(p: Parsed, t: &[u8]) -> bool
+    requires { ⌜ Limited p ⌝ }
+    ensures { λ r. ⌜ ((sh : Sheet) → Packs sh p → r ≡ wellLaid sh (now (t .entry))) ⌝ }
+{
+    let n = p.sorts;
+    if !sizes_right(n, t) {
+        return false;
+    }
+    let sizes = sizes_of(n, t);
+    let offsets = extents(p, sizes);
+    let end = p.symbols;
+    if t.len() != offsets[end] {
+        return false;
+    }
+    entries_right(p, sizes, offsets, t)
+}
+
+// Judge, of a parsed sheet: cause 12 first, then the bounds, then the statements.
+pub fn judge_parsed(p: Parsed, t: &[u8]) -> Judgement
+    requires { ⌜ Limited p ⌝ }
+    ensures { λ r. ⌜ ((sh : Sheet) → Packs sh p → r ≡ judged sh (now (t .entry))) ⌝ }
+{
+    if !well_laid(p, t) {
+        return Judgement::Refused {
+            number: 12,
+            place: 0,
+        };
+    }
+    let n = p.sorts;
+    let sizes = sizes_of(n, t);
+    if !in_bounds(p, sizes) {
+        return Judgement::OutOfBounds;
+    }
+    let offsets = extents(p, sizes);
+    let codes = codes_of(p, sizes, offsets, t);
+    first_broken(p, codes)
+}
+
+// A stretch of the tables: where it starts and where it ends.
+pub struct Span {
+    pub start: usize,
+    pub end: usize,
+}
+
+// Table of a name, of a parsed sheet: an empty stretch shows a refusal.
+pub fn span_of(p: Parsed, t: &[u8], name: usize) -> Span
+    requires { ⌜ Limited p ⌝ }
+    ensures { λ r. ⌜ ((sh : Sheet) → Packs sh p → Spans (r .start) (r .end) (stretchOf sh (now (t .entry)) name)) ⌝ }
+{
+    if p.symbols <= name {
+        return Span { start: 0, end: 0 };
+    }
+    if !well_laid(p, t) {
+        return Span { start: 0, end: 0 };
+    }
+    let n = p.sorts;
+    let sizes = sizes_of(n, t);
+    let offsets = extents(p, sizes);
+    Span {
+        start: offsets[name],
+        end: offsets[name + 1],
+    }
 }

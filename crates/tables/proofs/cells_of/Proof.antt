@@ -45,11 +45,11 @@ returns : tie.Need-returns
 returns c =
     let s = c .before .before .before .before .before .before in
     record {
-      cells = λ sh k h. 
-        ap₂ _*_
-        (c .before .width-of .ensures .0 ∙ ap (width (at (s .args .sizes))) (c .before .before .before .before .wide .ensures .0))
-        (c .width-of2 .ensures .0 ∙ ap (width (at (s .args .sizes))) (c .before .before .wide2 .ensures .0))
-        ∙ cells-packed sh (s .args .t1) k (at (s .args .sizes)) (s .args .f) h;
+      cells = λ sh k h.
+          ap₂ _*_
+          (c .before .width-of .ensures .0 ∙ ap (width (at (s .args .sizes))) (c .before .before .before .before .wide .ensures .0))
+          (c .width-of2 .ensures .0 ∙ ap (width (at (s .args .sizes))) (c .before .before .wide2 .ensures .0))
+          ∙ cells-packed sh (s .args .t1) k (at (s .args .sizes)) (s .args .f) h;
       small = product-small (c .before .width-of .result) (c .width-of2 .result) (search needs) (search needs);
     }
 

@@ -91,13 +91,16 @@ loop-again c =
     let l = c .before .before .before .before .before .before .before .before .before .before .loop in
     let f = c .before .before .before .before .before .before .before .wide in
     let x = c .before .before .wide4 in
-    let y = c .before .wide5 in
-    (omega arith, refl, simp length-set (l .inv .2),
-    codes-more (s .t1) (s .sizes) (s .offsets) (s .t .now) (l .i) (l .codes) (f .result) (x .result) (y .result) (c .cell .result) (l .inv .3) (l .inv .2) (omega arith) (omega arith)
-    (f .ensures .0)
-    (x .ensures .0 ∙ ap (at (l .codes)) (c .before .before .before .before .before .wide2 .ensures .0))
-    (y .ensures .0 ∙ ap (at (l .codes)) (c .before .before .before .wide3 .ensures .0))
-    (c .cell .ensures))
+    let y = c .before .wide5 in (
+      omega arith,
+      refl,
+      simp length-set (l .inv .2),
+      codes-more (s .t1) (s .sizes) (s .offsets) (s .t .now) (l .i) (l .codes) (f .result) (x .result) (y .result) (c .cell .result) (l .inv .3) (l .inv .2) (omega arith) (omega arith)
+          (f .ensures .0)
+          (x .ensures .0 ∙ ap (at (l .codes)) (c .before .before .before .before .before .wide2 .ensures .0))
+          (y .ensures .0 ∙ ap (at (l .codes)) (c .before .before .before .wide3 .ensures .0))
+          (c .cell .ensures),
+    )
 
 -- src/lib.rt:187:1
 returns : tie.Need-returns Inv-loop μ-loop

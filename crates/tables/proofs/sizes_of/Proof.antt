@@ -1,18 +1,15 @@
-use Prim.Native.Nat.{ℕ, _+_, _-_, _*_, _≤_, _<_}
+use Prim.Native.Nat.{ℕ, _+_, _-_, _≤_, _<_}
 use native.Mathlib.Omega.{arith}
-use mathlib.Core.Path.{_≡_, refl, ap, sym, _∙_}
-use mathlib.Core.Bool.{true, false}
+use mathlib.Core.Path.{_≡_, refl, sym, _∙_}
 use lib.ListN.{length, length-set}
-use lib.Dec.{leb, ltb, eqb}
 use Rattle.logic.specs.Structure.{at}
-use Rattle.sheet.specs.Layout.{within}
-use Rattle.tables.specs.Judge.{every}
 use Rattle.tables.proofs.Arrays.{copied-more}
 use borrow.Author.Needs.{needs}
 use Rattle.tables.proofs.sizes_of.Statement.{statement}
 use Rattle.tables.proofs.sizes_of.Tie as tie
 use Rattle.tables.proofs.sizes_of.Reads as reads
 use Rattle.tables.proofs.sizes_of.Lts as lts
+use Rattle.tables.proofs.byte_at.Reads as byte-at-reads
 
 abbrev Inv-loop : tie.InvT-loop
 Inv-loop n t sizes₀ s₀ sizes s = (s ≤ n) × (length sizes ≡ 8) × ((k : ℕ) → k < s → at sizes k ≡ at t k)
@@ -25,8 +22,8 @@ loop-holds : tie.Need-loop-holds Inv-loop μ-loop
 loop-holds c = search needs
 
 -- src/lib.rt:107:20
-shared-slice-read-sizes : tie.Need-shared-slice-read-sizes Inv-loop μ-loop
-shared-slice-read-sizes c = search needs
+byte-at-requires : tie.Need-byte-at-requires Inv-loop μ-loop
+byte-at-requires c κs = search needs
 
 -- src/lib.rt:107:9
 array-write-sizes : tie.Need-array-write-sizes Inv-loop μ-loop
@@ -43,9 +40,8 @@ loop-less c = search needs
 -- src/lib.rt:106:5
 loop-again : tie.Need-loop-again Inv-loop μ-loop
 loop-again c =
-    let s = c .before .before .before .args in
     let l = c .before .before .loop in
-    (omega arith, simp length-set (l .inv .1), copied-more (l .sizes) (s .t .now) (l .s) (omega arith) (l .inv .2))
+    (omega arith, simp length-set (l .inv .1), copied-more (l .sizes) (c .before .before .before .before .args .t .now) (l .s) (c .byte-at .result) (omega arith) (c .byte-at .ensures) (l .inv .2))
 
 -- src/lib.rt:100:1
 returns : tie.Need-returns Inv-loop μ-loop
@@ -58,7 +54,7 @@ sizes-of-spec =
     Inv-loop
     μ-loop
     loop-holds
-    shared-slice-read-sizes
+    byte-at-requires
     array-write-sizes
     add-s
     loop-less
