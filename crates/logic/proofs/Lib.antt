@@ -1,2 +1,4 @@
 pub mod Meaning
 pub mod OrderLaws
+pub mod Consistent
+pub mod Decided
