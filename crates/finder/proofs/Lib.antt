@@ -1,0 +1,9 @@
+pub mod Lists
+pub mod Boxes
+pub mod Solving
+pub mod Listing
+pub mod Demand
+pub mod Outcomes
+pub mod Joint
+pub mod Worked
+pub mod Reach

@@ -1,0 +1,130 @@
+-- Laws of one node of the search: the codes worth trying cover all, and codes read off the words settle the node.
+use Prim.Native.Nat.{ℕ, _+_, _≤_, _<_}
+use mathlib.Core.Path.{_≡_, refl, sym, ap, subst, _∙_}
+use mathlib.Core.Bool.{Bool, true, false, false≢true}
+use mathlib.Core.List.{List}
+use mathlib.Core.Logic.{_⊎_, inl, inr}
+use native.Mathlib.Omega.{arith}
+use native.Mathlib.Decide.{decLt, ℕ-discrete}
+use lib.ListN.{length, set}
+use borrow.Author.Count.{below-more}
+use Rattle.logic.specs.Structure.{at}
+use Rattle.logic.specs.Problem.{Problem, WellSorted, Consistent, Extends, Dead, undecided}
+use Rattle.logic.proofs.Consistent.{Unused, equal-codes, swapped, swapped-consistent, swapped-second, swapped-extends}
+use Rattle.logic.proofs.Decided.{at-set, at-set-same, at-set-other, decide-more}
+use Rattle.codes.specs.Tested.{Decides, Padded}
+use Rattle.propagate.specs.Knowledge.{Struck, Propagated}
+use Rattle.solve.specs.Solved.{Solved, Used, Fresh, Worth, Covers, Branches, Read}
+
+-- ---- flags of the codes in use
+pub used-more : (flags : List ℕ) (sort decided : ℕ → ℕ) (s j v : ℕ) → length flags ≡ 16 → v < 16 → v ≡ decided j
+    → ((k : ℕ) → k < j → sort k ≡ s → decided k < 16 → at flags (decided k) ≡ 1)
+    → (k : ℕ) → k < j + 1 → sort k ≡ s → decided k < 16 → at (set flags v 1) (decided k) ≡ 1
+used-more flags sort decided s j v len hv ev all =
+    below-more (λ (k : ℕ). sort k ≡ s → decided k < 16 → at (set flags v 1) (decided k) ≡ 1) j
+    (λ k h e d. kept k (all k h e d))
+    (λ e d. rw (← ev) (at-set-same flags v 1 (omega arith)))
+  where
+    kept : (k : ℕ) → at flags (decided k) ≡ 1 → at (set flags v 1) (decided k) ≡ 1
+    kept k e = elim (at-set flags v 1 (decided k)) [ inl x ↦ x ∙ e | inr x ↦ x .1 ]
+
+-- a code that is not flagged is not in use
+pub unflagged : (P : Problem) (q : ℕ → ℕ) (s v : ℕ) (flags : List ℕ) → Used P q s flags → v < 16 → (at flags v ≡ 1 → ⊥) → Unused P q s v
+unflagged P q s v flags u h n j hj e x = n (subst (λ (k : ℕ). at flags k ≡ 1) x (u j hj e (subst (λ (k : ℕ). k < 16) (sym x) h)))
+
+-- ---- the only code left
+pub only-struck : (word one v : ℕ) → Struck word v → ((u : ℕ) → u < v → (Struck word u → ⊥) → u ≡ one) → (u : ℕ) → u < v + 1 → (Struck word u → ⊥) → u ≡ one
+only-struck word one v s all = below-more _ v all (λ n. absurd (n s))
+
+pub only-first : (word one v : ℕ) → v ≤ 16 → 16 ≤ one → ((u : ℕ) → u < v → (Struck word u → ⊥) → u ≡ one) → (u : ℕ) → u < v + 1 → (Struck word u → ⊥) → u ≡ v
+only-first word one v le big all = below-more _ v (λ u h n. let e = all u h n in omega arith) (λ n. refl)
+
+-- ---- reading codes off
+module _ (P : Problem) (q : ℕ → ℕ) (words codes : List ℕ) (n v : ℕ) (len : length codes ≡ 256) (h : n < 256) (r : Read P q words codes n) where
+  read-step : ((q n ≡ undecided → ⊥) → v ≡ q n) → (q n ≡ undecided → (u : ℕ) → u < 16 → (Struck (at words n) u → ⊥) → u ≡ v) → Read P q words (set codes n v) (n + 1)
+  read-step d o =
+      record {
+        decided = below-more _ n (λ i l u. at-set-other codes n v i (λ e. below-not i l e) ∙ r .decided i l u) (λ u. at-set-same codes n v (omega arith) ∙ d u);
+        only = below-more _ n
+            (λ i l u w hw k. r .only i l u w hw k ∙ sym (at-set-other codes n v i (λ e. below-not i l e)))
+            (λ u w hw k. o u w hw k ∙ sym (at-set-same codes n v (omega arith)));
+        rest = λ i l. at-set-other codes n v i (λ e. above-not i l e) ∙ r .rest i (omega arith);
+      }
+    where
+      below-not : (i : ℕ) → i < n → i ≡ n → ⊥
+      below-not i l e = omega arith
+      above-not : (i : ℕ) → n + 1 ≤ i → i ≡ n → ⊥
+      above-not i l e = omega arith
+
+  pub read-decided : (q n ≡ undecided → ⊥) → v ≡ q n → Read P q words (set codes n v) (n + 1)
+  read-decided d e = read-step (λ u. e) (λ u. absurd (d u))
+
+  pub read-only : q n ≡ undecided → ((u : ℕ) → u < 16 → (Struck (at words n) u → ⊥) → u ≡ v) → Read P q words (set codes n v) (n + 1)
+  read-only u o = read-step (λ d. absurd (d u)) (λ e. o)
+
+module _ (P : Problem) (sizes q : ℕ → ℕ) (w : WellSorted P) (small : (s : ℕ) → s < P .sorts → sizes s ≤ 16) (isDead : Bool) (words : List ℕ) (k : Propagated P sizes q isDead words) where
+  below-16 : (c : ℕ → ℕ) → Consistent P sizes c → (i : ℕ) → i < P .terms → c i < 16
+  below-16 c con i h = let a = con .range i h in let b = small (P .sort i) (w .sort i h) in omega arith
+
+  -- codes that are read off for every term are those of every consistent extension
+  pub read-unique : (codes : List ℕ) → Read P q words codes (P .terms) → (c : ℕ → ℕ) → Consistent P sizes c → Extends P q c → (i : ℕ) → i < P .terms → c i ≡ at codes i
+  read-unique codes r c con ext i h =
+      elim (ℕ-discrete (q i) undecided) [
+        | yes u ↦ r .only i h u (c i) (below-16 c con i h) (k .struck c con ext i h)
+        | no d ↦ ext i h d ∙ sym (r .decided i h d)
+      ]
+
+  pub read-dead : (codes : List ℕ) → Read P q words codes (P .terms) → (Consistent P sizes (at codes) → ⊥) → Dead P sizes q
+  read-dead codes r not c con ext = not (equal-codes P sizes c (at codes) (read-unique codes r c con ext) (r .rest) con)
+
+  pub read-extends : (codes : List ℕ) → Read P q words codes (P .terms) → Extends P q (at codes)
+  read-extends codes r i h d = r .decided i h d
+
+  -- the codes worth trying cover all: any other is not in use and can be swapped with the first that is not in use
+  module _ (term fresh : ℕ) (flags : List ℕ) (there : term < P .terms) (f : Fresh flags (sizes (P .sort term)) fresh) (u : Used P q (P .sort term) flags) where
+    covers : (c : ℕ → ℕ) → Consistent P sizes c → Extends P q c → (d : ℕ → ℕ) × Covers P sizes q term (sizes (P .sort term)) (at words term) fresh flags c d
+    covers c con ext =
+        elim (decLt fresh (c term)) [
+          | no le ↦ (c, itself (inl (omega arith)))
+          | yes gt ↦
+              elim (ℕ-discrete (at flags (c term)) 1) [
+                | yes e ↦ (c, itself (inr e))
+                | no n ↦ (swapped P (P .sort term) fresh (c term) c, exchanged gt n)
+              ]
+        ]
+      where
+        itself : (c term ≤ fresh) ⊎ (at flags (c term) ≡ 1) → Covers P sizes q term (sizes (P .sort term)) (at words term) fresh flags c c
+        itself o =
+            record {
+              consistent = con;
+              extends = ext;
+              worth = record { below = con .range term there; kept = k .struck c con ext term there; used = o };
+              most = omega arith;
+            }
+        exchanged : fresh < c term → (at flags (c term) ≡ 1 → ⊥) → Covers P sizes q term (sizes (P .sort term)) (at words term) fresh flags c (swapped P (P .sort term) fresh (c term) c)
+        exchanged gt n =
+            let d = swapped P (P .sort term) fresh (c term) c in
+            let range = con .range term there in
+            let lim = small (P .sort term) (w .sort term there) in
+            let lf : fresh < sizes (P .sort term) = omega arith in
+            let con2 = swapped-consistent P (P .sort term) fresh (c term) sizes c w lf range con in
+            let ext2 = swapped-extends P (P .sort term) fresh (c term) q c (unflagged P q (P .sort term) fresh flags u (omega arith) (f .free lf)) (unflagged P q (P .sort term) (c term) flags u (omega arith) n) ext in
+            let e = swapped-second P (P .sort term) fresh (c term) c term there refl refl in
+            record {
+              consistent = con2;
+              extends = ext2;
+              worth = record { below = (omega arith); kept = k .struck d con2 ext2 term there; used = inl (omega arith) };
+              most = (omega arith);
+            }
+
+    pub branches : q term ≡ undecided → Branches P sizes q term (sizes (P .sort term)) (at words term) fresh flags
+    branches e = record { there = there; pending = e; small = small (P .sort term) (w .sort term there); covers = covers }
+
+-- every code worth trying is dead: so are the decisions
+pub branches-dead : (P : Problem) (sizes : ℕ → ℕ) (l : List ℕ) (term size word fresh : ℕ) (flags : List ℕ) → Branches P sizes (at l) term size word fresh flags
+    → ((v : ℕ) → v < size → Worth size word fresh flags v → Dead P sizes (at (set l term v))) → Dead P sizes (at l)
+branches-dead P sizes l term size word fresh flags b dead c con ext =
+    let m = b .covers c con ext in
+    let d = m .0 in
+    let k = m .1 in
+    dead (d term) (k .worth .below) (k .worth) d (k .consistent) (decide-more P l term (d term) d (k .extends) refl)
