@@ -3,13 +3,8 @@ use Prim.Native.Nat.{ℕ, zero, suc, _+_, _*_, _≤_, _<_}
 use native.Mathlib.Decide.{decLt}
 use native.Mathlib.Nat.{suc-mul}
 use native.Mathlib.Omega.{arith}
-use mathlib.Core.Path.{_≡_, refl}
+use mathlib.Core.Path.{_≡_}
 use Rattle.logic.specs.Structure.{sumTo}
-
--- functions that agree below n have one sum
-pub sumTo-same : (n : ℕ) (f g : ℕ → ℕ) → ((i : ℕ) → i < n → f i ≡ g i) → sumTo n f ≡ sumTo n g
-sumTo-same zero f g h = refl
-sumTo-same (suc n) f g h = cc (sumTo-same n f g (λ i l. h i (omega arith)), h n (omega arith))
 
 -- larger values have no smaller sum
 pub sumTo-monotone : (n : ℕ) (f g : ℕ → ℕ) → ((i : ℕ) → i < n → f i ≤ g i) → sumTo n f ≤ sumTo n g

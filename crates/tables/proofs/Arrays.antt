@@ -6,7 +6,7 @@ use native.Mathlib.Decide.{decLt}
 use native.Mathlib.Omega.{arith}
 use mathlib.Core.Path.{_≡_, refl, ap, ap₂, sym, _∙_, subst}
 use mathlib.Core.Bool.{Bool, true, false}
-use mathlib.Core.Logic.{_⊎_, inl, inr}
+use mathlib.Core.Logic.{inl, inr}
 use mathlib.Core.List.{List, [], _∷_, map}
 use lib.ListN.{length, getD, set, length-set, length-map, replicate}
 use lib.Seq.{getD-set-same, getD-set-other}
@@ -15,8 +15,9 @@ use lib.Dec.{leb, ltb, eqb}
 use Rattle.logic.specs.Sheet.{Sheet, Bound, Symbol, Term, Literal, boundAt, symbolAt, termAt, literalAt, sortAt}
 use Rattle.logic.specs.Structure.{at, sumTo, code}
 use Rattle.logic.specs.WellFormed.{Each, WellFormed}
-use Rattle.logic.proofs.Sums.{sumTo-same}
-use Rattle.logic.proofs.Codes.{map-below, code-is-cell, code-past}
+use Rattle.logic.proofs.Meaning.{map-each, sumTo-same, code-is}
+use Rattle.logic.proofs.Codes.{code-past}
+use Rattle.logic.proofs.Decided.{at-set}
 use Rattle.sheet.specs.Layout.{if, within}
 use Rattle.sheet.specs.Packed.{packed, view, first, second, bit}
 use Rattle.sheet.specs.Views.{Views}
@@ -121,16 +122,9 @@ pub record OffsetsTo (p : Parsed) (size : ℕ → ℕ) (f : ℕ) (offsets : List
   pub here : at offsets f ≤ 8 + 65025 * f
   pub small : Small offsets
 
--- a store is seen at its place or not
-at-set : (l : List ℕ) (i v j : ℕ) → (at (set l i v) j ≡ v) ⊎ (at (set l i v) j ≡ at l j)
-at-set [] i v j = inr refl
-at-set (x ∷ xs) zero v zero = inl refl
-at-set (x ∷ xs) zero v (suc j) = inr refl
-at-set (x ∷ xs) (suc i) v zero = inr refl
-at-set (x ∷ xs) (suc i) v (suc j) = at-set xs i v j
-
+-- numbers stay small after a small one is stored
 set-small : (l : List ℕ) (i v b : ℕ) → ((j : ℕ) → at l j ≤ b) → v ≤ b → (j : ℕ) → at (set l i v) j ≤ b
-set-small l i v b h e j = elim (at-set l i v j) [ inl x ↦ rw x e | inr x ↦ rw x (h j) ]
+set-small l i v b h e j = elim (at-set l i v j) [ inl x ↦ rw x (h j) | inr x ↦ rw (x .1) e ]
 
 at-zeros : (n i : ℕ) → at (replicate n 0) i ≡ 0
 at-zeros zero i = refl
@@ -268,8 +262,8 @@ code-now p sizes offsets t i codes v c h l e sh y =
     let spot : at codes (first args) * width (at sizes) (second params) + at codes (second args) ≡ place (at t) params (map (code (decoded sh t) sh) args) =
     place-by-width (at sizes) (at codes) params args (w .arity f g) many (params-below-8 sh p k f g) z
     ∙ place-same (length (sh .bounds)) (at sizes) (at t) params (map (at codes) args) (w .params f g) (y .size)
-    ∙ ap (place (at t) params) (map-below i (at codes) (code (decoded sh t) sh) args (w .args i b) (c .code sh y)) in
-    there ∙ ap₂ (λ (m x : ℕ). at t (m + x)) start spot ∙ sym (code-is-cell (decoded sh t) sh w i b)
+    ∙ ap (place (at t) params) (map-each (at codes) (code (decoded sh t) sh) (λ a. a < i) (c .code sh y) args (w .args i b)) in
+    there ∙ ap₂ (λ (m x : ℕ). at t (m + x)) start spot ∙ sym (code-is (decoded sh t) sh w i b)
 
 pub codes-more : (p : Parsed) (sizes offsets t : List ℕ) (i : ℕ) (codes : List ℕ) (f x y v : ℕ) → CodesTo p sizes offsets t i codes → length codes ≡ 256 → i < p .terms → p .terms ≤ 128 → f ≡ at (p .symbol) i → x ≡ at codes (at (p .arg0) i) → y ≡ at codes (at (p .arg1) i) → (f < 64 → v ≡ at t (at offsets f + (x * width (at sizes) (at (p .param1) f) + y))) → CodesTo p sizes offsets t (i + 1) (set codes i v)
 codes-more p sizes offsets t i codes f x y v c n h l ef ex ey e =

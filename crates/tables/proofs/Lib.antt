@@ -3,3 +3,4 @@ pub mod Cells
 pub mod Judged
 pub mod Arrays
 pub mod Whole
+pub mod Grids

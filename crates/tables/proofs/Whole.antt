@@ -11,7 +11,7 @@ use lib.Dec.{leb, ltb, eqb}
 use borrow.Author.Tests.{eq-eqb, ne-eqb, lt-ltb, le-ltb}
 use Rattle.logic.specs.Sheet.{Sheet, Bound, boundAt, symbolAt}
 use Rattle.logic.specs.Structure.{at, code}
-use Rattle.logic.proofs.Sums.{sumTo-same}
+use Rattle.logic.proofs.Meaning.{sumTo-same}
 use Rattle.sheet.specs.Layout.{if, within}
 use Rattle.sheet.specs.declared.Parsed.{Parsed}
 use Rattle.tables.specs.declared.Judgement.{Judgement}

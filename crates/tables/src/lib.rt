@@ -4,12 +4,15 @@ ghost use Prim.Native.Nat.{ℕ, _+_, _*_, _≤_, _<_};
 ghost use mathlib.Core.Path.{_≡_};
 ghost use mathlib.Core.Bool.{_&&_};
 ghost use lib.ListN.{length};
+ghost use lib.Seq.{paste};
 ghost use lib.Dec.{leb, ltb, eqb};
 ghost use Rattle.logic.specs.Sheet.{Sheet};
 ghost use Rattle.logic.specs.Structure.{at, code};
+ghost use Rattle.logic.specs.Order.{firsts};
 ghost use Rattle.sheet.specs.Layout.{within};
 ghost use Rattle.tables.specs.Layout.{decoded};
 ghost use Rattle.tables.specs.Judge.{every, entriesRight, inBounds, agree, statements, wellLaid, judged, stretchOf};
+ghost use Rattle.tables.specs.Grid.{grid};
 ghost use Rattle.tables.specs.Parts.{Packs, Limited, width, CellsOf, Small, Extents, Laying, Spans};
 
 // The answer to the question "judge".
@@ -303,5 +306,32 @@ pub fn span_of(p: Parsed, t: &[u8], name: usize) -> Span
     Span {
         start: offsets[name],
         end: offsets[name + 1],
+    }
+}
+
+// Writes the first cells of a row from a place on.
+fn write_row(out: &mut [u8], start: usize, row: [u8; 16], columns: usize)
+    requires { ⌜ (columns ≤ 16) × (start + columns ≤ length (now out)) ⌝ }
+    ensures { λ _. ⌜ now (out .exit) ≡ paste (now (out .entry)) start (firsts columns (at row)) columns ⌝ }
+{
+    let mut k: usize = 0;
+    while k < columns {
+        out[start + k] = row[k];
+        k += 1;
+    }
+}
+
+// Writes one symbol's table, which is the whole stretch, row by row.
+pub fn write_table(out: &mut [u8], cells: [[u8; 16]; 16], rows: usize, columns: usize)
+    requires { ⌜ (rows ≤ 16) × (columns ≤ 16) × (length (now out) ≡ rows * columns) ⌝ }
+    ensures { λ _. ⌜ now (out .exit) ≡ grid cells rows columns ⌝ }
+{
+    let mut start: usize = 0;
+    let mut r: usize = 0;
+    while r < rows {
+        let row = cells[r];
+        write_row(out, start, row, columns);
+        start += columns;
+        r += 1;
     }
 }
