@@ -11,3 +11,4 @@ pub mod Encoding
 pub mod Delivery
 pub mod Worked
 pub mod Reach
+pub mod Filling
