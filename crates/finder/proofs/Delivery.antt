@@ -118,3 +118,21 @@ module _ (sh : Sheet) (w : WellFormed sh) (s cs ts : List ℕ) (reads : reading 
         behindCodes = λ n f. let r : _ = found-is n f in behind-codes (r .0) (r .1);
         behindTables = λ n f. let r : _ = found-is n f in behind-tables (r .0) (r .1);
       }
+
+-- What is found and written does not depend on what the buffers held, nor on how long they are once they suffice.
+pub record Same (sh : Sheet) (s cs ts cs′ ts′ : List ℕ) : Type 0 where
+  pub result : finding s (length cs) (length ts) ≡ finding s (length cs′) (length ts′)
+  pub codes : (n : ℕ) → finding s (length cs) (length ts) ≡ Found n → codesWritten sh (codesAfter s cs ts) ≡ codesWritten sh (codesAfter s cs′ ts′)
+  pub tables : (n : ℕ) → finding s (length cs) (length ts) ≡ Found n → tablesWritten sh (tablesAfter s cs ts) ≡ tablesWritten sh (tablesAfter s cs′ ts′)
+
+pub same : (sh : Sheet) → WellFormed sh → (s cs ts cs′ ts′ : List ℕ) → reading s ≡ accepted sh → length (sh .terms) ≤ length cs → extent sh (ceilings sh) ≤ length ts → length (sh .terms) ≤ length cs′ → extent sh (ceilings sh) ≤ length ts′ → Same sh s cs ts cs′ ts′
+same sh w s cs ts cs′ ts′ q h k h′ k′ =
+    record {
+      result = exits sh w s cs ts q h k (answer sh) refl .result ∙ sym (exits sh w s cs′ ts′ q h′ k′ (answer sh) refl .result);
+      codes = λ n f.
+          let r : (e : Entry) × (answer sh ≡ some e) × (sum (e .sizes) ≡ n) = found-is sh w s cs ts q h k n f in
+          told sh w s cs ts q h k (r .0) (r .1) ∙ sym (told sh w s cs′ ts′ q h′ k′ (r .0) (r .1));
+      tables = λ n f.
+          let r : (e : Entry) × (answer sh ≡ some e) × (sum (e .sizes) ≡ n) = found-is sh w s cs ts q h k n f in
+          written sh w s cs ts q h k (r .0) (r .1) ∙ sym (written sh w s cs′ ts′ q h′ k′ (r .0) (r .1));
+    }

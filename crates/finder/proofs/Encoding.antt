@@ -3,9 +3,9 @@
 use Prim.Native.Nat.{ℕ, zero, suc, _+_, _*_, _≤_, _<_}
 use mathlib.Core.Path.{_≡_, refl, ap, ap₂, sym, _∙_}
 use mathlib.Core.Logic.{inl, inr}
-use mathlib.Core.List.{List, [], _∷_, _++_, map}
-use lib.ListN.{length, getD, length-append, length-map, List·getD-append}
-use lib.Seq.{getD-append-add}
+use mathlib.Core.List.{List, [], _∷_, _++_, map, append-assoc}
+use lib.ListN.{length, getD, take, length-append, length-map, List·getD-append}
+use lib.Seq.{getD-append-add, take-append-add, take-at, take-all}
 use native.Mathlib.Nat.{suc-mul, mul-le-mul-right, mul-le-mul}
 use native.Mathlib.Omega.{arith}
 use Rattle.logic.specs.Sheet.{Sheet, Symbol, symbolAt}
@@ -133,11 +133,16 @@ module _ (M : Structure) where
   abbrev lists : List ℕ → List (List ℕ)
   lists params = box (map (rangeOf (M .size)) params)
 
-  length-table : (f : ℕ) (params : List ℕ) → length (tableBytes M f params) ≡ cells (M .size) params
+  pub length-table : (f : ℕ) (params : List ℕ) → length (tableBytes M f params) ≡ cells (M .size) params
   length-table f params = length-map (lists params) (M .table f) ∙ length-cells (M .size) params
 
   table-at : (f : ℕ) (params : List ℕ) (k : ℕ) → k < cells (M .size) params → at (tableBytes M f params) k ≡ M .table f (getD (lists params) k [])
   table-at f params k h = getD-map-in (M .table f) (lists params) k [] 0 (omega (arith, length-cells (M .size) params))
+
+  -- the cell at argument codes
+  pub table-cell : (f : ℕ) (params cs : List ℕ) → InSorts (M .size) params cs → at (tableBytes M f params) (place (M .size) params cs) ≡ M .table f cs
+  table-cell f params cs i =
+      table-at f params (place (M .size) params cs) (place-below (M .size) params cs i) ∙ ap (M .table f) (box-place (M .size) params cs i)
 
   abbrev symbolIn : List Symbol → ℕ → Symbol
   symbolIn gs k = getD gs k (record { result = 0; params = [] })
@@ -170,6 +175,24 @@ module _ (M : Structure) where
       ∙ getD-append-add (tableBytes M b (g .params)) (tablesFrom M (suc b) gs) (sumTo k (manyOf gs) + j) 0
       ∙ tables-at (suc b) gs k m j (omega arith) (omega arith) l
 
+  -- the tables of the first k + 1 symbols are those of the first k, and one more
+  tables-more : (b : ℕ) (gs : List Symbol) (k m : ℕ) → k < length gs → m ≡ b + k → take (sumTo (suc k) (manyOf gs)) (tablesFrom M b gs) ≡ take (sumTo k (manyOf gs)) (tablesFrom M b gs) ++ tableBytes M m (symbolIn gs k .params)
+  tables-more b [] k m h e = absurd (omega arith)
+  tables-more b (g ∷ gs) zero m h e =
+      let same : m ≡ b = omega arith in
+      take-at (tableBytes M b (g .params)) (tablesFrom M (suc b) gs) (sumTo 1 (manyOf (g ∷ gs))) (omega (arith, length-table b (g .params)))
+      ∙ ap (λ (f : ℕ). tableBytes M f (g .params)) (sym same)
+  tables-more b (g ∷ gs) (suc k) m h e =
+      let front : List ℕ = tableBytes M b (g .params) in
+      let after : (j : ℕ) → take (sumTo (suc j) (manyOf (g ∷ gs))) (tablesFrom M b (g ∷ gs)) ≡ front ++ take (sumTo j (manyOf gs)) (tablesFrom M (suc b) gs) =
+      λ j.
+      let behind : sumTo (suc j) (manyOf (g ∷ gs)) ≡ length front + sumTo j (manyOf gs) = omega (arith, length-table b (g .params), sumTo-front j (manyOf (g ∷ gs))) in
+      ap (λ (i : ℕ). take i (front ++ tablesFrom M (suc b) gs)) behind ∙ take-append-add front (tablesFrom M (suc b) gs) (sumTo j (manyOf gs)) in
+      after (suc k)
+      ∙ ap (λ (l : List ℕ). front ++ l) (tables-more (suc b) gs k m (omega arith) (omega arith))
+      ∙ sym (append-assoc front (take (sumTo k (manyOf gs)) (tablesFrom M (suc b) gs)) (tableBytes M m (symbolIn gs k .params)))
+      ∙ ap (λ (l : List ℕ). l ++ tableBytes M m (symbolIn gs k .params)) (sym (after k))
+
 module _ (sh : Sheet) (w : WellFormed sh) (M : Structure) where
   pub length-encoded : length (encoded M sh) ≡ extent sh (M .size)
   length-encoded =
@@ -191,6 +214,26 @@ module _ (sh : Sheet) (w : WellFormed sh) (M : Structure) where
       ∙ getD-append-add (firsts n (M .size)) (tablesFrom M 0 (sh .symbols)) (sumTo f (manyOf M (sh .symbols)) + j) 0
       ∙ tables-at M 0 (sh .symbols) f f j h (omega arith) l
       ∙ table-at M f (symbolAt sh f .params) j l
+
+  -- The bytes one stretch after the other: the sizes, then the table of each symbol at its offset, up to the extent.
+  taken : (j : ℕ) → take (length (sh .bounds) + j) (encoded M sh) ≡ firsts (length (sh .bounds)) (M .size) ++ take j (tablesFrom M 0 (sh .symbols))
+  taken j =
+      ap (λ (i : ℕ). take (i + j) (encoded M sh)) (sym (length-firsts (length (sh .bounds)) (M .size)))
+      ∙ take-append-add (firsts (length (sh .bounds)) (M .size)) (tablesFrom M 0 (sh .symbols)) j
+
+  pub encoded-sizes : take (length (sh .bounds)) (encoded M sh) ≡ firsts (length (sh .bounds)) (M .size)
+  encoded-sizes = take-at (firsts (length (sh .bounds)) (M .size)) (tablesFrom M 0 (sh .symbols)) (length (sh .bounds)) (length-firsts (length (sh .bounds)) (M .size))
+
+  pub encoded-more : (f : ℕ) → f < length (sh .symbols) → take (offset sh (M .size) (suc f)) (encoded M sh) ≡ take (offset sh (M .size) f) (encoded M sh) ++ tableBytes M f (symbolAt sh f .params)
+  encoded-more f h =
+      let sizes : List ℕ = firsts (length (sh .bounds)) (M .size) in
+      taken (sumTo (suc f) (manyOf M (sh .symbols)))
+      ∙ ap (λ (l : List ℕ). sizes ++ l) (tables-more M 0 (sh .symbols) f f h (omega arith))
+      ∙ sym (append-assoc sizes (take (sumTo f (manyOf M (sh .symbols))) (tablesFrom M 0 (sh .symbols))) (tableBytes M f (symbolAt sh f .params)))
+      ∙ ap (λ (l : List ℕ). l ++ tableBytes M f (symbolAt sh f .params)) (sym (taken (sumTo f (manyOf M (sh .symbols)))))
+
+  pub encoded-whole : take (extent sh (M .size)) (encoded M sh) ≡ encoded M sh
+  encoded-whole = take-all (extent sh (M .size)) (encoded M sh) (omega (arith, length-encoded))
 
   -- THE ROUND TRIP
   pub round-trip : Alike sh M (decoded sh (encoded M sh))
