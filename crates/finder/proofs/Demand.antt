@@ -12,11 +12,11 @@ use Rattle.logic.specs.WellFormed.{WellFormed}
 use Rattle.logic.specs.Structure.{Structure, InSorts, Candidate, Satisfies, codes, code, at, sumTo}
 use Rattle.logic.specs.Order.{firsts, Before, sizesOf, sumOf, Earlier}
 use Rattle.logic.proofs.Meaning.{map-each, code-below, code-congruent, codes-own, length-codes, firsts-at, firsts-same}
-use Rattle.finder.specs.Answer.{Entry, cellOf, reachedCells, cellAt, structureWith, structureOf, unforced, answer, sum}
+use Rattle.finder.specs.Answer.{Entry, entryOf, cellOf, reachedCells, cellAt, structureWith, structureOf, unforced, answer, sum}
 use Rattle.finder.specs.Demand.{Answers, Demand, Hopeless, Unreached, InTables}
 use Rattle.finder.proofs.Lists.{found-or-none}
 use Rattle.finder.proofs.Solving.{TermOf, term-of, own-cell, solution-same}
-use Rattle.finder.proofs.Listing.{Fits, entryOf, Chosen, chosen, Ahead, Sooner, sooner-asym, none-fits, sum-firsts}
+use Rattle.finder.proofs.Listing.{Fits, Chosen, chosen, Ahead, Sooner, sooner-asym, none-fits, sum-firsts}
 
 -- a candidate that satisfies the sheet fits
 pub structure-fits : (sh : Sheet) → WellFormed sh → (M : Structure) → Candidate M sh → Satisfies M sh → Fits sh (M .size) (code M sh)

@@ -13,3 +13,4 @@ pub mod Worked
 pub mod Reach
 pub mod Filling
 pub mod Grid
+pub mod Writing

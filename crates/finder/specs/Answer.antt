@@ -8,6 +8,7 @@ use lib.ListN.{length}
 use lib.Dec.{eqb}
 use Rattle.logic.specs.Sheet.{Sheet, Bound, Term, Literal, symbolAt}
 use Rattle.logic.specs.Structure.{Structure, at, sumTo}
+use Rattle.logic.specs.Order.{firsts}
 use Rattle.logic.specs.Box.{Range, run, box}
 use Rattle.sheet.specs.Layout.{if, sameList}
 
@@ -32,6 +33,10 @@ sum l = sumTo (length l) (at l)
 pub record Entry : Type 0 where
   pub sizes : List ℕ
   pub codes : List ℕ
+
+-- the entry with these sizes and codes
+abbrev pub entryOf : Sheet → (ℕ → ℕ) → (ℕ → ℕ) → Entry
+entryOf sh size c = record { sizes = firsts (length (sh .bounds)) size; codes = firsts (length (sh .terms)) c }
 
 -- sizes from floor to ceiling (none, where a floor is above its ceiling), and codes below the size of the term's sort
 abbrev pub sizeRange : Bound → Range

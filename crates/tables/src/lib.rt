@@ -41,7 +41,7 @@ fn byte_at(t: &[u8], i: usize) -> u8
 }
 
 // How many rows or columns a parameter of sort s gives a table; a missing one is 255.
-fn width_of(sizes: [u8; 8], s: usize) -> usize
+pub fn width_of(sizes: [u8; 8], s: usize) -> usize
     ensures { λ r. ⌜ (r ≡ width (at sizes) s) × (r < 256) ⌝ }
 {
     if s < 8 {
