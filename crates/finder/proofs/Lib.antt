@@ -12,3 +12,4 @@ pub mod Delivery
 pub mod Worked
 pub mod Reach
 pub mod Filling
+pub mod Grid
