@@ -5,9 +5,8 @@ use mathlib.Core.List.{List}
 use lib.ListN.{length, take, drop}
 use native.Mathlib.Omega.{arith}
 use lib.Seq.{length-front, length-take-le, take-append-seam, drop-append-seam}
-use Rattle.finder.specs.Answer.{sum}
 use Rattle.finder.specs.Find.{Outcome, turnedDown, answered, outcome, finds, finding, fronted, codesIn, codesAfter, tablesIn, tablesAfter}
-use Rattle.finder.specs.declared.Finding.the-variants.{Found, Refused}
+use Rattle.finder.specs.declared.Finding.the-variants.{Refused}
 
 pub length-fronted : (new buffer : List ℕ) → length new ≤ length buffer → length (fronted new buffer) ≡ length buffer
 length-fronted new buffer h = length-front buffer new (length new) (sym (length-take-le (length new) buffer h))
@@ -40,6 +39,6 @@ refused-untouched s cs ts n i f = step (outcome s (length cs) (length ts)) refl
     step : (o : Outcome) → outcome s (length cs) (length ts) ≡ o → (codesAfter s cs ts ≡ cs) × (tablesAfter s cs ts ≡ ts)
     step (turnedDown m j) q = let x : Exit s cs ts (turnedDown m j) = exit s cs ts (turnedDown m j) q in (x .codes, x .tables)
     step (answered sh e) q =
-        let r : Found (sum (e .sizes)) ≡ Refused n i = sym (exit s cs ts (answered sh e) q .result) ∙ f in
+        let r : finds (answered sh e) ≡ Refused n i = sym (exit s cs ts (answered sh e) q .result) ∙ f in
         let z : _≡_ {A = ℕ} 0 1 = cc in
         absurd (omega arith)
