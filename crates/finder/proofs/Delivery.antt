@@ -10,8 +10,11 @@ use Rattle.logic.specs.Sheet.{Sheet}
 use Rattle.logic.specs.WellFormed.{WellFormed}
 use Rattle.logic.specs.Structure.{at}
 use Rattle.logic.proofs.Meaning.{length-codes}
-use Rattle.sheet.specs.Layout.{accepted, reading}
+use Rattle.sheet.specs.Layout.{Reading, accepted, reading}
 use Rattle.tables.specs.Layout.{extent, decoded, encoded}
+use Rattle.tables.specs.Judge.{judgedOf, judgement}
+use Rattle.tables.specs.declared.Judgement.the-variants.{Fits}
+use Rattle.tables.proofs.Judged.{judged-says}
 use Rattle.finder.specs.Answer.{Entry, answer, sum, structureOf}
 use Rattle.finder.specs.Find.{ceilings, answering, finding, codesAfter, tablesAfter}
 use Rattle.finder.specs.Demand.{Answers, Delivered, Promised, codesWritten, tablesWritten}
@@ -136,3 +139,9 @@ same sh w s cs ts cs′ ts′ q h k h′ k′ =
           let r : (e : Entry) × (answer sh ≡ some e) × (sum (e .sizes) ≡ n) = found-is sh w s cs ts q h k n f in
           written sh w s cs ts q h k (r .0) (r .1) ∙ sym (written sh w s cs′ ts′ q h′ k′ (r .0) (r .1));
     }
+
+-- the judge finds that delivered tables fit
+pub judged-fits : (s : List ℕ) (sh : Sheet) (n : ℕ) (C T : List ℕ) → reading s ≡ accepted sh → Delivered sh n C T → judgement s T ≡ Fits
+unfolding judgement
+judged-fits s sh n C T q d =
+    ap (λ (r : Reading). judgedOf r T) q ∙ judged-says sh T Fits .1 (d .laid, d .candidate, d .satisfies)

@@ -11,6 +11,7 @@ use Rattle.logic.specs.Structure.{Structure, at, sumTo}
 use Rattle.logic.specs.Order.{firsts}
 use Rattle.logic.specs.Box.{Range, run, box}
 use Rattle.sheet.specs.Layout.{if, sameList}
+use Rattle.tables.specs.Judge.{holds}
 
 -- Lists: what f gives of each entry, one after the other; the entries that pass a test; the first that does; the sum. (What a `let` binds
 -- is computed only where it is wanted, so that the worked sheets compute.)
@@ -88,10 +89,7 @@ abbrev pub functional : List Cell → Bool
 functional [] = true
 functional (x ∷ xs) = agrees x xs && functional xs
 
--- a literal holds where terms have the codes c; all do
-abbrev pub holds : (ℕ → ℕ) → Literal → Bool
-holds c l = if (l .equal) (eqb (c (l .left)) (c (l .right))) (not (eqb (c (l .left)) (c (l .right))))
-
+-- every literal holds where terms have the codes c; `holds` is the judge's test of one
 abbrev pub allHold : (ℕ → ℕ) → List Literal → Bool
 allHold c [] = true
 allHold c (l ∷ ls) = holds c l && allHold c ls
