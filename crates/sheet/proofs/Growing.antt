@@ -237,6 +237,9 @@ module _ (sh : Sheet) (so : SoFar sh) where
         sides = so .sides;
       }
 
+pub total-least : (sh : Sheet) (x : ℕ) → Clear sh total (x ∷ []) → 1 ≤ x
+total-least sh x c = in-range 1 128 x (and-both (within 1 128 x) true (not-false (within 1 128 x && true) (c .range)) .0) .0
+
 -- none of the causes 3 to 8 applies
 pub record Fine (sh : Sheet) (k : ℕ) (p : List ℕ) : Type 0 where
   pub placed : Placed sh (kindOf k)
