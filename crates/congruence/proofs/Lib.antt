@@ -1,3 +1,5 @@
 pub mod Arrays
 pub mod Labels
 pub mod Sweeps
+pub mod TermCodes
+pub mod Structures
