@@ -1,5 +1,4 @@
 pub mod Arrays
 pub mod Labels
 pub mod Sweeps
-pub mod TermCodes
 pub mod Structures

@@ -3,7 +3,7 @@
 use Prim.Native.Nat.{ℕ, zero, suc, _≤_, _<_}
 use native.Mathlib.Omega.{arith}
 use native.Mathlib.Decide.{decLt, ℕ-discrete}
-use mathlib.Core.Path.{_≡_, refl, ap, sym, _∙_, subst}
+use mathlib.Core.Path.{_≡_, refl, ap, sym, _∙_}
 use mathlib.Core.Bool.{Bool, true, false}
 use mathlib.Core.Logic.{_⊎_, inl, inr}
 use mathlib.Core.List.{List, [], _∷_, map, List-discrete}
@@ -12,11 +12,11 @@ use Rattle.logic.specs.Sheet.{Sheet, symbolAt, termAt, literalAt, sortAt}
 use Rattle.logic.specs.Structure.{Structure, Interprets, SatisfiesSame, Agree, code}
 use Rattle.logic.specs.WellFormed.{Each, WellFormed}
 use Rattle.logic.specs.Problem.{Problem}
+use Rattle.logic.proofs.Meaning.{code-congruent, codes-own}
 use Rattle.sheet.specs.Packed.{first, second, bit}
 use Rattle.sheet.specs.Views.{Views}
 use Rattle.congruence.specs.Groups.{Models, Entails, Groups, Closable, alone}
 use Rattle.congruence.specs.Forced.{Forced}
-use Rattle.congruence.proofs.TermCodes.{map-below, code-is-cell}
 
 -- at most two arguments have equal codes one by one where the first two have
 args-equal : (c : ℕ → ℕ) (xs ys : List ℕ) → length xs ≡ length ys → length xs ≤ 2 → c (first xs) ≡ c (first ys) → c (second xs) ≡ c (second ys) → map c xs ≡ map c ys
@@ -97,10 +97,7 @@ module _ (sh : Sheet) (w : WellFormed sh) (P : Problem) (v : Views sh P) where
             let x′ : code M sh (first (termAt sh i .args)) ≡ code M sh (first (termAt sh j .args)) = ap (code M sh) (sym (v .arg0 i ci)) ∙ x ∙ ap (code M sh) (v .arg0 j cj) in
             let y′ : code M sh (second (termAt sh i .args)) ≡ code M sh (second (termAt sh j .args)) = ap (code M sh) (sym (v .arg1 i ci)) ∙ y ∙ ap (code M sh) (v .arg1 j cj) in
             let args = args-equal (code M sh) (termAt sh i .args) (termAt sh j .args) (arity .0) (arity .1) x′ y′ in
-            code-is-cell M sh w i ci
-            ∙ ap (λ f. M .table f (map (code M sh) (termAt sh i .args))) symbols
-            ∙ ap (M .table (termAt sh j .symbol)) args
-            ∙ sym (code-is-cell M sh w j cj);
+            code-congruent M sh w i j ci cj symbols args;
         same = λ k b e.
             let c : k < length (sh .literals) = omega arith in
             let equal = bit-true (literalAt sh k .equal) (sym (v .equal k c) ∙ e) in
@@ -183,23 +180,11 @@ module _ (sh : Sheet) (w : WellFormed sh) (P : Problem) (v : Views sh P) where
     unfolding labelled
     labelled-interprets = record { nonempty = λ s b. omega arith; complete = λ f b cs fits. found-small f cs (searched f cs (length (sh .terms))) }
 
-    labelled-below : (n : ℕ) → n ≤ length (sh .terms) → (i : ℕ) → i < n → code labelled sh i ≡ l i
-    unfolding labelled
-    labelled-below zero h i b = absurd (omega arith)
-    labelled-below (suc n) h i b =
-        let early : (a : ℕ) → a < n → code labelled sh a ≡ l a = labelled-below n (omega arith) in
-        elim (decLt i n) [
-          | yes d ↦ early i d
-          | no d ↦
-              let e : n ≡ i = omega arith in
-              subst (λ (x : ℕ). code labelled sh x ≡ l x) e
-              (code-is-cell labelled sh w n h
-              ∙ ap (labelled .table (termAt sh n .symbol)) (map-below n (code labelled sh) l (termAt sh n .args) (w .args n h) early)
-              ∙ found-label n h (searched (termAt sh n .symbol) (map l (termAt sh n .args)) (length (sh .terms))))
-        ]
-
     labelled-codes : (i : ℕ) → i < length (sh .terms) → code labelled sh i ≡ l i
-    labelled-codes = labelled-below (length (sh .terms)) (omega arith)
+    unfolding labelled
+    labelled-codes =
+        codes-own labelled sh w l
+        (λ i h. sym (found-label i h (searched (termAt sh i .symbol) (map l (termAt sh i .args)) (length (sh .terms)))))
 
     labelled-same : SatisfiesSame labelled sh
     labelled-same k b e =

@@ -60,10 +60,12 @@ loop-again c =
     let l = c .before .before .before .before .before .before .loop in
     let n = next-row (l .r) (s .rows) (s .columns) (l .start) (omega arith) (l .inv .1) in
     let h : l .start + s .columns ≤ length (l .out) = omega (arith, c .before .before .before .before .before .before .before .before .pre .2) in
-    let e = c .before .before .write-row .ensures in
-    (omega arith, row-start (l .r) (s .columns) (l .start) (l .inv .1),
-    ap length e ∙ length-row (l .out) (l .start) (s .columns) (cellAt (s .t2) (l .r)) h ∙ l .inv .2,
-    ap (take (l .start + s .columns)) e ∙ row-more (l .out) (s .t2) (l .r) (s .columns) (l .start) h (l .inv .3))
+    let e = c .before .before .write-row .ensures in (
+      omega arith,
+      row-start (l .r) (s .columns) (l .start) (l .inv .1),
+      ap length e ∙ length-row (l .out) (l .start) (s .columns) (cellAt (s .t2) (l .r)) h ∙ l .inv .2,
+      ap (take (l .start + s .columns)) e ∙ row-more (l .out) (s .t2) (l .r) (s .columns) (l .start) h (l .inv .3),
+    )
 
 -- src/lib.rt:325:1
 same-length : tie.Need-same-length Inv-loop μ-loop
