@@ -1,19 +1,19 @@
 -- A record by its kind: the payload's shape, and what follows where no cause applies.
-use Prim.Native.Nat.{ℕ, zero, suc, _+_, _≤_, _<_}
+use Prim.Native.Nat.{ℕ, _<_}
 use native.Mathlib.Omega.{arith}
 use mathlib.Core.Path.{_≡_, refl, ap, sym, _∙_, subst}
-use mathlib.Core.Bool.{Bool, true, false, not, _&&_, _||_, true≢false}
+use mathlib.Core.Bool.{Bool, true, false, _||_, true≢false}
 use mathlib.Core.List.{List, [], _∷_}
-use lib.ListN.{length, getD, take, drop}
-use lib.Dec.{leb, ltb, eqb}
-use borrow.Author.Tests.{ltb-true, ltb-false, leb-true, leb-false, not-true, not-false}
+use lib.ListN.{length, getD, take}
+use lib.Dec.{ltb}
+use borrow.Author.Tests.{ltb-true, ltb-false, leb-false, not-false}
 use Rattle.logic.specs.Sheet.{Sheet}
-use Rattle.sheet.specs.Layout.{Kind, kindOf, field, name, expression, same, differ, total, rank, reached, misplaced, wrongLength, add}
+use Rattle.sheet.specs.Layout.{kindOf, wrongLength, add}
 use Rattle.sheet.specs.Step.{bytesOf, Short}
 use Rattle.sheet.specs.Parts.{later, Good}
 use Rattle.sheet.specs.declared.Payload.{Payload}
-use Rattle.sheet.proofs.Causes.{Placed, placed, Clear, clear, no-terms, no-total}
-use Rattle.sheet.proofs.Pairs.{argsOf, front, and-both}
+use Rattle.sheet.proofs.Causes.{Placed, placed, Clear, clear, no-terms}
+use Rattle.sheet.proofs.Pairs.{front, and-both}
 
 -- kinds of one length only
 pub fixed : (m n : ℕ) → (ltb n m || ltb m n) ≡ false → n ≡ m

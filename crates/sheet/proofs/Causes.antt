@@ -1,16 +1,15 @@
 -- The causes 3 to 8, case by case: what each test of the code comes to in the words of the layout.
-use Prim.Native.Nat.{ℕ, zero, suc, _+_, _≤_, _<_}
+use Prim.Native.Nat.{ℕ, zero, suc, _≤_, _<_}
 use native.Mathlib.Omega.{arith}
 use mathlib.Core.Path.{_≡_, refl, ap, sym, _∙_}
 use mathlib.Core.Bool.{Bool, true, false, not, _&&_, _||_, true≢false}
-use mathlib.Core.List.{List, [], _∷_, map}
-use lib.ListN.{length, getD, take, drop}
-use lib.Dec.{leb, ltb, eqb}
-use borrow.Author.Tests.{lt-ltb, le-ltb, le-leb, lt-leb, eq-eqb, ne-eqb, ltb-true, ltb-false, leb-true, leb-false, eqb-true, eqb-false, not-true, not-false}
-use Rattle.logic.specs.Sheet.{Sheet, Term, symbolAt, termAt, sortAt}
-use Rattle.logic.specs.WellFormed.{Each}
-use Rattle.sheet.specs.Layout.{Kind, other, field, name, expression, same, differ, total, kindOf, if, rank, reached, misplaced, wrongLength, shortest, longest, tooMany, outOfRange, illSorted, repeated, sameList, all, occurs, within}
-use Rattle.sheet.specs.Packed.{first, second}
+use mathlib.Core.List.{List, [], _∷_}
+use lib.ListN.{length}
+use lib.Dec.{ltb, eqb}
+use borrow.Author.Tests.{lt-ltb, le-ltb, le-leb, lt-leb, eq-eqb, ne-eqb, ltb-false, eqb-true, eqb-false}
+use Rattle.logic.specs.Sheet.{Sheet, sortAt}
+use Rattle.sheet.specs.Layout.{Kind, field, name, expression, same, total, kindOf, if, rank, reached, misplaced, wrongLength, shortest, longest, tooMany, outOfRange, illSorted, repeated, all, occurs, within}
+use Rattle.sheet.specs.Packed.{first}
 use Rattle.sheet.specs.Parts.{later}
 
 -- a kind that is none of 1 to 6 has no rank

@@ -2,18 +2,18 @@
 use Prim.Native.Nat.{ℕ, zero, suc, _+_, _≤_, _<_}
 use native.Mathlib.Omega.{arith}
 use mathlib.Core.Path.{_≡_, refl, ap, sym, _∙_, subst}
-use mathlib.Core.Bool.{Bool, true, false, not, _&&_, _||_, true≢false}
+use mathlib.Core.Bool.{Bool, true, false, _&&_, _||_, true≢false}
 use mathlib.Core.List.{List, [], _∷_, _++_, map}
-use lib.ListN.{length, getD, drop, length-append, List·getD-append}
+use lib.ListN.{length, getD, length-append, List·getD-append}
 use lib.Seq.{getD-append-seam}
 use lib.Dec.{leb, ltb, eqb}
-use borrow.Author.Tests.{ltb-true, ltb-false, leb-true, leb-false, eqb-true, not-true, not-false, eq-eqb}
-use Rattle.logic.specs.Sheet.{Sheet, Bound, Symbol, Term, Literal, boundAt, symbolAt, termAt, literalAt, sortAt}
+use borrow.Author.Tests.{ltb-true, ltb-false, leb-true, leb-false, eqb-true, not-false, eq-eqb}
+use Rattle.logic.specs.Sheet.{Sheet, Bound, Symbol, Term, Literal, symbolAt, termAt, sortAt}
 use Rattle.logic.specs.WellFormed.{Each, Within}
-use Rattle.sheet.specs.Layout.{Kind, kindOf, field, name, expression, same, differ, total, if, rank, reached, misplaced, wrongLength, shortest, longest, outOfRange, illSorted, all, within, sameList, occurs, cause, add, addBound, addSymbol, addTerm, addLiteral, withTotal, empty}
+use Rattle.sheet.specs.Layout.{Kind, kindOf, field, name, expression, same, differ, total, if, rank, reached, misplaced, wrongLength, shortest, longest, all, within, sameList, occurs, cause, add, addBound, addSymbol, addTerm, addLiteral, withTotal, empty}
 use Rattle.sheet.specs.SoFar.{SoFar}
 use Rattle.sheet.specs.Parts.{later}
-use Rattle.sheet.proofs.Causes.{Placed, placed, Clear, clear, no-total, no-literals, no-terms, no-symbols}
+use Rattle.sheet.proofs.Causes.{Placed, placed, Clear, clear, no-literals, no-terms, no-symbols}
 use Rattle.sheet.proofs.Pairs.{and-both, all-below, each-weaken, map-below}
 
 -- what holds of each entry of a list, and of one more at its end

@@ -1,12 +1,11 @@
 -- The arrays of a parsed sheet: what stands in them, and that storing at the count adds an entry.
-use Prim.Native.Nat.{ℕ, zero, suc, _+_, _-_, _≤_, _<_}
+use Prim.Native.Nat.{ℕ, zero, suc, _+_, _-_, _<_}
 use native.Mathlib.Omega.{arith}
 use mathlib.Core.Path.{_≡_, refl, ap, sym, _∙_}
-use mathlib.Core.Bool.{Bool, true, false}
 use mathlib.Core.List.{List, [], _∷_, _++_, map, append-assoc}
-use lib.ListN.{length, getD, set, replicate, length-append, length-map, List·getD-append, List·getD-map}
+use lib.ListN.{length, getD, set, replicate, length-append, length-map, List·getD-append}
 use lib.Seq.{set-append-seam}
-use Rattle.logic.specs.Sheet.{Sheet, Bound, Symbol, Term, Literal, boundAt, symbolAt, termAt, sortAt}
+use Rattle.logic.specs.Sheet.{Sheet, Bound, Symbol, Term, Literal, symbolAt, termAt, sortAt}
 use Rattle.sheet.specs.Layout.{addBound, addSymbol, addTerm, addLiteral, withTotal}
 use Rattle.sheet.specs.Packed.{pad, first, second, bit, packed}
 use Rattle.sheet.specs.declared.Parsed.{Parsed}

@@ -5,19 +5,18 @@ use mathlib.Core.Path.{_≡_, refl, ap, sym, _∙_, subst}
 use mathlib.Core.Bool.{Bool, true, false, _||_, true≢false}
 use mathlib.Core.List.{List, [], _∷_}
 use lib.ListN.{length, take, drop}
-use lib.Dec.{leb, ltb, eqb}
+use lib.Dec.{leb, ltb}
 use borrow.Author.Tests.{ltb-false, le-ltb, lt-ltb, le-leb, lt-leb, eq-eqb, ne-eqb}
 use Rattle.logic.specs.Sheet.{Sheet}
 use Rattle.sheet.specs.Layout
-use Rattle.sheet.specs.Layout.{kindOf, if, misplaced, wrongLength, cause, cut, kindAt, lengthAt, payloadAt, Reading, accepted, refused, ended, readFrom, reading, empty}
+use Rattle.sheet.specs.Layout.{kindOf, if, misplaced, wrongLength, cause, cut, kindAt, lengthAt, payloadAt, accepted, refused, ended, readFrom, reading, empty}
 use Rattle.sheet.specs.Packed.{packed, parsing}
 use Rattle.sheet.specs.Step.{stepAt, bytesOf, Short}
-use Rattle.sheet.specs.SoFar.{SoFar, Known}
+use Rattle.sheet.specs.SoFar.{Known}
 use Rattle.sheet.specs.Parts.{later, faultAt, Took}
 use Rattle.sheet.specs.declared.Parsed.{Parsed}
 use Rattle.sheet.specs.declared.Payload.{Payload}
 use Rattle.sheet.specs.declared.Taken.{Taken}
-use Rattle.sheet.specs.declared.Step.{Step}
 use Rattle.sheet.specs.declared.Step.the-variants.{Record, Cut, End}
 use Rattle.sheet.proofs.Causes.{placed, ranked}
 use Rattle.sheet.proofs.Growing.{grown, empty-sofar}
