@@ -1,1 +1,4 @@
 pub mod Layout
+pub mod Judge
+pub mod Parts
+pub mod Grid

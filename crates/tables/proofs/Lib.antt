@@ -1,0 +1,6 @@
+pub mod Tests
+pub mod Cells
+pub mod Judged
+pub mod Arrays
+pub mod Whole
+pub mod Grids
