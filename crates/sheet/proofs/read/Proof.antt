@@ -1,4 +1,5 @@
 -- A parsed sheet has number 0, and no refusal has.
+use native.Mathlib.Omega.{arith}
 use Rattle.sheet.proofs.Verdicts.{verdict-accepted, verdict-refused}
 use borrow.Author.Needs.{needs}
 use Rattle.sheet.proofs.read.Statement.{statement}
@@ -10,7 +11,7 @@ parse-requires c κs = search needs
 returns : tie.Need-returns
 returns c =
     verdict-accepted (c .before .before .before .before .args .s .now) (c .before .before .parse .result)
-    (c .before .before .parse .ensures) (c .if1 .taken)
+    (c .before .before .parse .ensures) (omega arith)
 
 returns-2 : tie.Need-returns-2
 returns-2 c =

@@ -36,7 +36,10 @@ take-record-requires c κs =
     let w =
     step-whole (a .s .now) (a .at) (g .0) (g .1 .0) (g .1 .1 .0)
     (sym (c .before .before .before .step-at .ensures) ∙ c .before .kind .given .1) in
-    let x = w .start in let y = w .len in let z = w .inside in (c .before .before .before .before .before .pre .0, omega arith)
+    let x = w .start in
+    let y = w .len in
+    let z = w .inside in
+    (c .before .before .before .before .before .pre .0, omega arith)
 
 returns-2 : tie.Need-returns-2
 returns-2 c k =

@@ -22,13 +22,19 @@ sort-of-requires : tie.Need-sort-of-requires
 sort-of-requires c κs =
     let a = c .before .args in
     let k = c .before .pre .0 in
-    let h = holds (a .t1) (k .sheet) (k .same) in let n = k .sofar .terms in let m = k .sofar .symbols in omega arith
+    let h = holds (a .t1) (k .sheet) (k .same) in
+    let n = k .sofar .terms in
+    let m = k .sofar .symbols in
+    omega arith
 
 element-copy-out-if1 : tie.Need-element-copy-out-if1
 element-copy-out-if1 c =
     let a = c .before .before .args in
     let k = c .before .before .pre .0 in
-    let h = holds (a .t1) (k .sheet) (k .same) in let n = k .sofar .terms in let m = k .sofar .symbols in omega arith
+    let h = holds (a .t1) (k .sheet) (k .same) in
+    let n = k .sofar .terms in
+    let m = k .sofar .symbols in
+    omega arith
 
 returns : tie.Need-returns
 returns c k =
@@ -50,13 +56,19 @@ sort-of-requires-2 : tie.Need-sort-of-requires-2
 sort-of-requires-2 c κs =
     let a = c .before .before .before .before .args in
     let k = c .before .before .before .before .pre .0 in
-    let h = holds (a .t1) (k .sheet) (k .same) in let n = k .sofar .terms in let m = k .sofar .symbols in omega arith
+    let h = holds (a .t1) (k .sheet) (k .same) in
+    let n = k .sofar .terms in
+    let m = k .sofar .symbols in
+    omega arith
 
 element-copy-out-result : tie.Need-element-copy-out-result
 element-copy-out-result c =
     let a = c .before .before .before .before .before .args in
     let k = c .before .before .before .before .before .pre .0 in
-    let h = holds (a .t1) (k .sheet) (k .same) in let n = k .sofar .terms in let m = k .sofar .symbols in omega arith
+    let h = holds (a .t1) (k .sheet) (k .same) in
+    let n = k .sofar .terms in
+    let m = k .sofar .symbols in
+    omega arith
 
 returns-2 : tie.Need-returns-2
 returns-2 c k =

@@ -27,19 +27,26 @@ loop-holds c = (omega arith, λ k. refl)
 element-copy-out-is-same : tie.Need-element-copy-out-is-same Inv-loop μ-loop
 element-copy-out-is-same c =
     let a = c .before .before .args in
-    let k = c .before .before .pre .0 in let h = holds (a .t1) (k .sheet) (k .same) in let n = k .sofar .terms in omega arith
+    let k = c .before .before .pre .0 in
+    let h = holds (a .t1) (k .sheet) (k .same) in
+    let n = k .sofar .terms in
+    omega arith
 
 element-copy-out-is-same-2 : tie.Need-element-copy-out-is-same-2 Inv-loop μ-loop
 element-copy-out-is-same-2 c =
     let a = c .before .before .before .args in
     let k = c .before .before .before .pre .0 in
-    let h = holds (a .t1) (k .sheet) (k .same) in let n = k .sofar .terms in omega arith
+    let h = holds (a .t1) (k .sheet) (k .same) in
+    let n = k .sofar .terms in
+    omega arith
 
 element-copy-out-is-same-3 : tie.Need-element-copy-out-is-same-3 Inv-loop μ-loop
 element-copy-out-is-same-3 c =
     let a = c .before .before .before .before .args in
     let k = c .before .before .before .before .pre .0 in
-    let h = holds (a .t1) (k .sheet) (k .same) in let n = k .sofar .terms in omega arith
+    let h = holds (a .t1) (k .sheet) (k .same) in
+    let n = k .sofar .terms in
+    omega arith
 
 is-same-requires : tie.Need-is-same-requires Inv-loop μ-loop
 is-same-requires c κs = search needs
@@ -67,7 +74,9 @@ add-i : tie.Need-add-i Inv-loop μ-loop
 add-i c =
     let a = c .before .before .before .before .before .before .before .args in
     let k = c .before .before .before .before .before .before .before .pre .0 in
-    let h = holds (a .t1) (k .sheet) (k .same) in let n = k .sofar .terms in omega arith
+    let h = holds (a .t1) (k .sheet) (k .same) in
+    let n = k .sofar .terms in
+    omega arith
 
 loop-less : tie.Need-loop-less Inv-loop μ-loop
 loop-less c = omega arith

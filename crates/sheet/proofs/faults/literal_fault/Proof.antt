@@ -35,13 +35,17 @@ element-copy-out-if4 : tie.Need-element-copy-out-if4
 element-copy-out-if4 c =
     let a = c .before .before .before .before .before .args in
     let k = c .before .before .before .before .before .pre in
-    let h = holds (a .t1) (k .sheet) (k .same) in let n = k .sofar .terms in omega arith
+    let h = holds (a .t1) (k .sheet) (k .same) in
+    let n = k .sofar .terms in
+    omega arith
 
 element-copy-out-if4-2 : tie.Need-element-copy-out-if4-2
 element-copy-out-if4-2 c =
     let a = c .before .before .before .before .before .before .args in
     let k = c .before .before .before .before .before .before .pre in
-    let h = holds (a .t1) (k .sheet) (k .same) in let n = k .sofar .terms in omega arith
+    let h = holds (a .t1) (k .sheet) (k .same) in
+    let n = k .sofar .terms in
+    omega arith
 
 returns-4 : tie.Need-returns-4
 returns-4 c k =
