@@ -3,8 +3,7 @@ mod faults;
 mod grow;
 
 ghost use mathlib.Core.Path.{_≡_};
-ghost use Prim.Native.Nat.{ℕ, _+_, _<_, _≤_};
-ghost use mathlib.Core.List.{[]};
+ghost use Prim.Native.Nat.{_+_, _<_, _≤_};
 ghost use lib.ListN.{length, getD, take, drop};
 ghost use Rattle.sheet.specs.Layout.{reading, refused, empty, word, payloadAt, kindAt, lengthAt, cause};
 ghost use Rattle.sheet.specs.Packed.{packed, parsing, verdict};
@@ -64,37 +63,10 @@ pub enum Step {
     End,
 }
 
-// A payload of one to three bytes, 255 for a second or third that is missing.
-pub struct Payload {
-    pub len: usize,
-    pub b0: u8,
-    pub b1: u8,
-    pub b2: u8,
-}
+// The most bytes of a sheet.
+const MOST_BYTES: usize = 4096;
 
-// A record tested and added: number 0, where the next one starts and the sheet with it, or the number of the cause.
-pub struct Taken {
-    pub number: u8,
-    pub next: usize,
-    pub sheet: Parsed,
-}
-
-// A byte as a position.
-pub(crate) fn wide(x: u8) -> usize
-    ensures { λ r. ⌜ (r ≡ x) × (r < 256) ⌝ }
-{
-    x as usize
-}
-
-// A number of two bytes, little-endian.
-fn word(s: &[u8], i: usize) -> usize
-    requires { ⌜ i + 1 < length (now s) ⌝ }
-    ensures { λ r. ⌜ (r ≡ word (now (s .entry)) i) × (r < 65536) ⌝ }
-{
-    wide(s[i]) + 256 * wide(s[i + 1])
-}
-
-// The record at a position.
+// The record at a position; there is none at the end of the sheet or past it.
 pub fn step_at(s: &[u8], at: usize) -> Step
     ensures { λ r. ⌜ r ≡ stepAt (now (s .entry)) at ⌝ }
 {
@@ -144,6 +116,84 @@ pub fn record_at(s: &[u8], at: usize) -> Step
     next(reader_at(s, at))
 }
 
+// What the sheet's bytes say: the parsed sheet, or the refusal.
+pub fn parse(s: &[u8]) -> Parsing
+    ensures { λ r. ⌜ r ≡ parsing (reading (now (s .entry))) ⌝ }
+{
+    let n = s.len();
+    if n == 0 {
+        return refusal(1, 0);
+    }
+    if MOST_BYTES < n {
+        return refusal(1, 0);
+    }
+    let mut p = nothing();
+    let mut at: usize = 0;
+    while at < n {
+        let r = read_record(p, s, at);
+        if r.number != 0 {
+            return refusal(r.number, at);
+        }
+        at = r.next;
+        let grown = r.sheet;
+        p = grown;
+    }
+    if p.total == 0 {
+        return refusal(9, n);
+    }
+    Parsing {
+        number: 0,
+        place: 0,
+        sheet: p,
+    }
+}
+
+// The question "read": whether a sheet is accepted.
+pub fn read(s: &[u8]) -> Verdict
+    ensures { λ r. ⌜ r ≡ verdict (reading (now (s .entry))) ⌝ }
+{
+    let r = parse(s);
+    if r.number == 0 {
+        return Verdict::Accepted;
+    }
+    Verdict::Refused {
+        number: r.number,
+        place: r.place,
+    }
+}
+
+// ---- the parts of the parser: one record tested against the sheet so far, and added to it
+
+// A payload of one to three bytes, 255 for a second or third that is missing.
+pub(crate) struct Payload {
+    pub len: usize,
+    pub b0: u8,
+    pub b1: u8,
+    pub b2: u8,
+}
+
+// A record tested and added: number 0, where the next one starts and the sheet with it, or the number of the cause.
+pub(crate) struct Taken {
+    pub number: u8,
+    pub next: usize,
+    pub sheet: Parsed,
+}
+
+// A byte as a position.
+pub(crate) fn wide(x: u8) -> usize
+    ensures { λ r. ⌜ (r ≡ x) × (r < 256) ⌝ }
+{
+    x as usize
+}
+
+// A number of two bytes, little-endian.
+fn word(s: &[u8], i: usize) -> usize
+    requires { ⌜ i + 1 < length (now s) ⌝ }
+    ensures { λ r. ⌜ (r ≡ word (now (s .entry)) i) × (r < 65536) ⌝ }
+{
+    wide(s[i]) + 256 * wide(s[i + 1])
+}
+
 // The byte of a payload at a place, 255 where the payload ends before it.
 fn byte_or(s: &[u8], start: usize, len: usize, k: usize) -> u8
     requires { ⌜ start + len ≤ length (now s) ⌝ }
@@ -188,6 +238,17 @@ fn nothing() -> Parsed
         left: [0u8; 128],
         right: [0u8; 128],
         total: 0,
+    }
+}
+
+// A refusal, with an empty sheet.
+fn refusal(number: u8, place: usize) -> Parsing
+    ensures { λ r. ⌜ r ≡ parsing (refused number place) ⌝ }
+{
+    Parsing {
+        number,
+        place,
+        sheet: nothing(),
     }
 }
 
@@ -241,60 +302,4 @@ fn read_record(p: Parsed, s: &[u8], at: usize) -> Taken
         };
     };
     take_record(p, s, kind, start, len)
-}
-
-fn refusal(number: u8, place: usize) -> Parsing
-    ensures { λ r. ⌜ r ≡ parsing (refused number place) ⌝ }
-{
-    Parsing {
-        number,
-        place,
-        sheet: nothing(),
-    }
-}
-
-// What the sheet's bytes say: the parsed sheet, or the refusal.
-pub fn parse(s: &[u8]) -> Parsing
-    ensures { λ r. ⌜ r ≡ parsing (reading (now (s .entry))) ⌝ }
-{
-    let n = s.len();
-    if n == 0 {
-        return refusal(1, 0);
-    }
-    if 4096 < n {
-        return refusal(1, 0);
-    }
-    let mut p = nothing();
-    let mut at: usize = 0;
-    while at < n {
-        let r = read_record(p, s, at);
-        if r.number != 0 {
-            return refusal(r.number, at);
-        }
-        at = r.next;
-        let grown = r.sheet;
-        p = grown;
-    }
-    if p.total == 0 {
-        return refusal(9, n);
-    }
-    Parsing {
-        number: 0,
-        place: 0,
-        sheet: p,
-    }
-}
-
-// The question "read": whether a sheet is accepted.
-pub fn read(s: &[u8]) -> Verdict
-    ensures { λ r. ⌜ r ≡ verdict (reading (now (s .entry))) ⌝ }
-{
-    let r = parse(s);
-    if r.number == 0 {
-        return Verdict::Accepted;
-    }
-    Verdict::Refused {
-        number: r.number,
-        place: r.place,
-    }
 }
