@@ -4,3 +4,4 @@ pub mod Judged
 pub mod Arrays
 pub mod Whole
 pub mod Grids
+pub mod Tables

@@ -48,9 +48,11 @@ loop-less c = search needs
 loop-again : tie.Need-loop-again Inv-loop μ-loop
 loop-again c =
     let s = c .before .before .args in
-    let l = c .before .loop in
-    (omega arith, simp length-set (l .inv .1),
-    ap (λ (d : List ℕ). set d (s .start + l .k) (at (s .t3) (l .k))) (l .inv .2) ∙ cell-more (s .out .now) (s .start) (s .columns) (at (s .t3)) (l .k) (omega arith) (omega arith))
+    let l = c .before .loop in (
+      omega arith,
+      simp length-set (l .inv .1),
+      ap (λ (d : List ℕ). set d (s .start + l .k) (at (s .t3) (l .k))) (l .inv .2) ∙ cell-more (s .out .now) (s .start) (s .columns) (at (s .t3)) (l .k) (omega arith) (omega arith),
+    )
 
 -- src/lib.rt:313:1
 same-length : tie.Need-same-length Inv-loop μ-loop

@@ -3,7 +3,7 @@ use native.Mathlib.Omega.{arith}
 use mathlib.Core.Path.{_≡_, refl, ap, sym, _∙_}
 use lib.ListN.{length, take}
 use lib.Seq.{take-all}
-use Rattle.tables.specs.Grid.{cellAt, grid}
+use Rattle.tables.specs.Grid.{gridCell, grid}
 use Rattle.tables.proofs.Grids.{next-row, row-start, row-more, length-row}
 use borrow.Author.Needs.{needs}
 use Rattle.tables.proofs.write_table.Statement.{statement}
@@ -60,10 +60,12 @@ loop-again c =
     let l = c .before .before .before .before .before .before .loop in
     let n = next-row (l .r) (s .rows) (s .columns) (l .start) (omega arith) (l .inv .1) in
     let h : l .start + s .columns ≤ length (l .out) = omega (arith, c .before .before .before .before .before .before .before .before .pre .2) in
-    let e = c .before .before .write-row .ensures in
-    (omega arith, row-start (l .r) (s .columns) (l .start) (l .inv .1),
-    ap length e ∙ length-row (l .out) (l .start) (s .columns) (cellAt (s .t2) (l .r)) h ∙ l .inv .2,
-    ap (take (l .start + s .columns)) e ∙ row-more (l .out) (s .t2) (l .r) (s .columns) (l .start) h (l .inv .3))
+    let e = c .before .before .write-row .ensures in (
+      omega arith,
+      row-start (l .r) (s .columns) (l .start) (l .inv .1),
+      ap length e ∙ length-row (l .out) (l .start) (s .columns) (gridCell (s .t2) (l .r)) h ∙ l .inv .2,
+      ap (take (l .start + s .columns)) e ∙ row-more (l .out) (s .t2) (l .r) (s .columns) (l .start) h (l .inv .3),
+    )
 
 -- src/lib.rt:325:1
 same-length : tie.Need-same-length Inv-loop μ-loop
