@@ -1,6 +1,7 @@
 -- From the parts of judge to the whole, over the arrays of a parsed sheet.
-use Prim.Native.Nat.{ℕ, _+_, _≤_, _<_}
+use Prim.Native.Nat.{ℕ, suc, _+_, _≤_, _<_}
 use native.Mathlib.Numerals.{add-one}
+use native.Mathlib.Decide.{decLt}
 use native.Mathlib.Omega.{arith}
 use mathlib.Core.Path.{_≡_, refl, ap, ap₂, sym, _∙_, fun-ext}
 use mathlib.Core.Bool.{Bool, true, false, _&&_}
@@ -12,6 +13,7 @@ use borrow.Author.Tests.{eq-eqb, ne-eqb, lt-ltb, le-ltb}
 use Rattle.logic.specs.Sheet.{Sheet, Bound, boundAt, symbolAt}
 use Rattle.logic.specs.Structure.{at, code}
 use Rattle.logic.proofs.Meaning.{sumTo-same}
+use Rattle.logic.proofs.Sums.{sumTo-grows}
 use Rattle.sheet.specs.Layout.{if, within}
 use Rattle.sheet.specs.declared.Parsed.{Parsed}
 use Rattle.tables.specs.declared.Judgement.{Judgement}
@@ -19,6 +21,7 @@ use Rattle.tables.specs.declared.Judgement.the-variants.{OutOfBounds, Re
 use Rattle.tables.specs.Layout.{cells, offset, extent, decoded}
 use Rattle.tables.specs.Judge.{every, sizesRight, entriesRight, wellLaid, inBounds, statements, judged, Stretch, stretchOf}
 use Rattle.tables.specs.Parts.{Packs, Limited, Extents, Laying, Spans}
+use Rattle.tables.proofs.Judged.{well-laid-test}
 use Rattle.tables.proofs.Arrays.{seen, symbols-packed, offset-same}
 use Rattle.tables.proofs.Tests.{decided, every-same, and-first, and-second}
 
@@ -112,3 +115,18 @@ span-found sh p sizes offsets t f y h e =
     let from = laid-offset sh p sizes offsets t y f (omega arith) in
     let to = laid-offset sh p sizes offsets t y (f + 1) (omega arith) in
     rw (e, lt-ltb f (length (sh .symbols)) l) (record { begins = from; ends = to ∙ rw (add-one f) (omega arith) })
+
+-- the stretch of a table lies in the tables
+pub stretch-within : (sh : Sheet) (t : List ℕ) (f : ℕ) → stretchOf sh t f .start + stretchOf sh t f .many ≤ length t
+unfolding stretchOf
+stretch-within sh t f =
+    elim (decided (wellLaid sh t)) [
+      | inl e ↦
+          elim (decLt f (length (sh .symbols))) [
+            | yes l ↦
+                rw (e, lt-ltb f (length (sh .symbols)) l)
+                (omega (arith, well-laid-test sh t .0 e .extent, sumTo-grows (suc f) (length (sh .symbols)) (λ g. cells (at t) (symbolAt sh g .params)) l))
+            | no l ↦ rw (e, le-ltb f (length (sh .symbols)) (omega arith)) (omega arith)
+          ]
+      | inr e ↦ rw e (omega arith)
+    ]

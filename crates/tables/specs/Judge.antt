@@ -3,7 +3,7 @@ use Prim.Native.Nat.{ℕ, zero, suc, _+_, _<_}
 use mathlib.Core.Path.{_≡_}
 use mathlib.Core.Bool.{Bool, true, false, not, _&&_}
 use mathlib.Core.List.{List, [], _∷_}
-use lib.ListN.{length}
+use lib.ListN.{length, take, drop}
 use lib.Dec.{leb, ltb, eqb}
 use Rattle.logic.specs.Sheet.{Sheet, Bound, Symbol, Literal, boundAt, symbolAt, literalAt}
 use Rattle.logic.specs.Structure.{at, code, sumTo, Holds, Satisfies, Bounded, Candidate}
@@ -79,6 +79,10 @@ judgement s t = judgedOf (reading s) t
 pub record Stretch : Type 0 where
   pub start : ℕ
   pub many : ℕ
+
+-- the bytes of a stretch
+abbrev pub stretch : List ℕ → Stretch → List ℕ
+stretch t s = take (s .many) (drop (s .start) t)
 
 -- what shows a refusal
 abbrev pub nowhere : Stretch
