@@ -1,29 +1,21 @@
 -- From a parsed sheet to the bytes: what the parser hands over decides judge and table of a name.
-use Prim.Native.Nat.{ℕ, _+_, _-_, _≤_, _<_}
+use Prim.Native.Nat.{ℕ, _-_, _≤_}
 use native.Mathlib.Omega.{arith}
 use mathlib.Core.Path.{_≡_, refl, ap, sym, _∙_, subst}
-use mathlib.Core.Bool.{true, false}
 use mathlib.Core.Logic.{_⊎_, inl, inr}
-use mathlib.Core.List.{List, []}
-use lib.ListN.{length, take, drop}
-use borrow.Author.Tests.{lt-ltb, le-ltb}
-use native.Mathlib.Decide.{decLt}
+use mathlib.Core.List.{List}
+use lib.ListN.{length}
 use Rattle.logic.specs.Sheet.{Sheet}
-use Rattle.logic.specs.Structure.{at}
-use Rattle.logic.proofs.Sums.{sumTo-grows}
 use Rattle.sheet.specs.Layout.{Reading, accepted, refused, reading, empty}
 use Rattle.sheet.specs.Packed.{packed, parsing}
-use Rattle.sheet.specs.declared.Parsed.{Parsed}
 use Rattle.sheet.specs.declared.Parsing.{Parsing}
 use Rattle.sheet.proofs.Answers.{accepted-well-formed, refused-number}
 use Rattle.tables.specs.declared.Judgement.{Judgement}
 use Rattle.tables.specs.declared.Judgement.the-variants.{Refused}
-use Rattle.tables.specs.Layout.{cells, offset, extent}
-use Rattle.tables.specs.Judge.{wellLaid, judged, judgement, Stretch, nowhere, stretch, stretchOf, tableOf}
-use Rattle.tables.specs.Parts.{Packs, Limited, Spans}
-use Rattle.tables.proofs.Tests.{decided}
-use Rattle.tables.proofs.Judged.{well-laid-test}
-use Rattle.tables.proofs.Whole.{packs-limited, stretch-within}
+use Rattle.tables.specs.Parts.{Packs, Limited}
+use Rattle.tables.proofs.Whole.{packs-limited}
+use Rattle.judge.specs.Judge.{judged, judgement, Stretch, nowhere, stretchOf, tableOf, Spans}
+use Rattle.judge.proofs.Replies.{stretch-within}
 
 -- a sheet is accepted or refused
 pub record Accepted (s : List ℕ) : Type 0 where

@@ -6,7 +6,7 @@ use native.Mathlib.Numerals.{add-one}
 use native.Mathlib.Omega.{arith}
 use mathlib.Core.Path.{_≡_, refl, ap, ap₂, sym, _∙_}
 use mathlib.Core.List.{List, [], _∷_, _++_}
-use lib.ListN.{length, getD, set, take, length-append, List·getD-append}
+use lib.ListN.{length, set, take, length-append, List·getD-append}
 use lib.Seq.{paste, paste-suc, length-paste, take-paste, take-all, getD-append-add, ext-getD}
 use Rattle.logic.specs.Structure.{Structure, InSorts, at}
 use Rattle.logic.specs.Order.{firsts}

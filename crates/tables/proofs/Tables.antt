@@ -1,18 +1,18 @@
 -- The tables of a structure: cell by cell they hold the structure, they are well laid, and their length is the extent at its sizes.
 use Prim.Native.Nat.{ℕ, zero, suc, _+_, _*_, _-_, _/_, _%_, _≤_, _<_}
-use native.Mathlib.Nat.{not-suc-le-zero, le-of-suc-le-suc, suc-mul, zero-mul, mul-zero, div-add-mod', div-lt-iff-lt-mul, mod-lt}
+use native.Mathlib.Nat.{not-suc-le-zero, le-of-suc-le-suc, suc-mul, mul-zero, div-add-mod', div-lt-iff-lt-mul, mod-lt}
 use native.Mathlib.Decide.{decLt}
 use native.Mathlib.Omega.{arith}
-use mathlib.Core.Path.{_≡_, refl, ap, ap₂, sym, _∙_, subst}
+use mathlib.Core.Path.{_≡_, refl, ap, ap₂, sym, _∙_}
 use mathlib.Core.List.{List, [], _∷_, _++_, map}
 use lib.ListN.{length, getD, length-append, length-map, List·getD-append}
 use lib.Seq.{getD-append-add, ext-getD}
-use Rattle.logic.specs.Sheet.{Sheet, Bound, Symbol, Term, boundAt, symbolAt, termAt}
+use Rattle.logic.specs.Sheet.{Sheet, Symbol, boundAt, symbolAt, termAt}
 use Rattle.logic.specs.Structure.{Structure, InSorts, Interprets, at, code, sumTo, Satisfies, Bounded}
 use Rattle.logic.specs.Order.{firsts}
-use Rattle.logic.specs.WellFormed.{Each, Within, WellFormed}
+use Rattle.logic.specs.WellFormed.{WellFormed}
 use Rattle.logic.specs.Box.{Range, run, fronts, box}
-use Rattle.logic.proofs.Meaning.{length-firsts, at-firsts, sumTo-same}
+use Rattle.logic.proofs.Meaning.{length-firsts, at-firsts}
 use Rattle.logic.proofs.Codes.{reached-in-params, same-code, satisfies-same}
 use Rattle.logic.proofs.Sums.{sumTo-monotone}
 use Rattle.tables.specs.Layout.{cells, place, offset, extent, decoded, tableBytes, tablesFrom, encoded, WellLaid}

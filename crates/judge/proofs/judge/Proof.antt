@@ -1,28 +1,21 @@
+-- `judge::judge` meets its contract. The parser refuses, or it hands over a sheet that judge_parsed judges.
 use Rattle.judge.proofs.Questions.{parsed-limited, judge-refused, judge-accepted}
 use borrow.Author.Needs.{needs}
 use Rattle.judge.proofs.judge.Statement.{statement}
 use Rattle.judge.proofs.judge.Tie as tie
-use Rattle.judge.proofs.judge.Reads as reads
-use Rattle.judge.proofs.judge.Lts as lts
-use Rattle.sheet.proofs.parse.Reads as parse-reads
-use Rattle.tables.proofs.judge_parsed.Reads as judge-parsed-reads
 
--- src/lib.rt:12:9
 parse-requires : tie.Need-parse-requires
 parse-requires c κs = search needs
 
--- src/lib.rt:16:9
 returns : tie.Need-returns
 returns c =
     let s = c .before .before .before .before .args in
     let q = c .before .parse in
     judge-refused (s .sheet .now) (q .result) (q .ensures) (s .tables .now) (c .if1 .taken)
 
--- src/lib.rt:19:5
 judge-parsed-requires : tie.Need-judge-parsed-requires
 judge-parsed-requires c κs = parsed-limited (c .before .before .before .before .before .args .sheet .now) (c .before .before .parse .result) (c .before .before .parse .ensures)
 
--- src/lib.rt:9:1
 returns-2 : tie.Need-returns-2
 returns-2 c =
     let s = c .before .before .before .before .before .before .args in
