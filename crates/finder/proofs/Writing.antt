@@ -198,6 +198,9 @@ module _ (p : Parsed) (size c : ℕ → ℕ) (d : List ℕ) (w : Writable p size
   pub limits : Limited p
   limits = packs-limited (w .sheet) p (w .packs)
 
+  pub sizes-fit : p .sorts ≤ length d
+  sizes-fit = omega (arith, packs-views (w .sheet) p (w .packs) .sorts, w .room)
+
   pub tables-none : (offsets : List ℕ) → Extents p size offsets → TablesTo p size c offsets d 0 d
   tables-none offsets x =
       record {

@@ -13,7 +13,8 @@ use Rattle.sheet.specs.declared.Parsed.{Parsed}
 use Rattle.tables.specs.Layout.{extent, encoded}
 use Rattle.tables.specs.Grid.{cellAt}
 use Rattle.tables.specs.Parts.{Packs}
-use Rattle.finder.specs.Answer.{Entry, entryOf, structureOf}
+use Rattle.finder.specs.Answer.{Entry, entryOf, sum, structureOf}
+use Rattle.finder.specs.Find.{fronted}
 
 -- term i reaches the cell of symbol f in this row and column
 abbrev pub reaches : Problem → (ℕ → ℕ) → ℕ → ℕ → ℕ → ℕ → Bool
@@ -41,3 +42,9 @@ pub record Writable (p : Parsed) (size c : ℕ → ℕ) (n : ℕ) : Type 0 where
 -- the bytes of the answer with these sizes and codes
 abbrev pub answerBytes : Sheet → (ℕ → ℕ) → (ℕ → ℕ) → List ℕ
 answerBytes sh size c = encoded (structureOf sh (entryOf sh size c)) sh
+
+-- An answer in front of both buffers: the sum of its sizes, its codes, its bytes. A primed buffer is the buffer then.
+pub record AnswerWritten (sh : Sheet) (size c : ℕ → ℕ) (codes tables codes′ tables′ : List ℕ) (r : ℕ) : Type 0 where
+  pub total : r ≡ sum (entryOf sh size c .sizes)
+  pub front : codes′ ≡ fronted (entryOf sh size c .codes) codes
+  pub bytes : tables′ ≡ fronted (answerBytes sh size c) tables
