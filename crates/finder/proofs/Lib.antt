@@ -14,3 +14,4 @@ pub mod Reach
 pub mod Filling
 pub mod Grid
 pub mod Writing
+pub mod Answering

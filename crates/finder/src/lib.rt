@@ -9,7 +9,7 @@ ghost use Rattle.logic.specs.Sheet.{Sheet};
 ghost use Rattle.logic.specs.Order.{firsts};
 ghost use Rattle.tables.specs.Parts.{Packs};
 ghost use Rattle.finder.specs.Find.{fronted};
-ghost use Rattle.finder.specs.Fill.{Filled, Writable, answerBytes};
+ghost use Rattle.finder.specs.Fill.{Filled, Writable, AnswerWritten, answerBytes};
 
 // The answer to the question "find".
 pub enum Finding {
@@ -74,4 +74,23 @@ fn write_tables(out: &mut [u8], p: Parsed, sizes: [u8; 8], codes: [u8; 256])
         tables::write_table(&mut out[start..end], t, rows, columns);
         f += 1;
     }
+}
+
+// Writes an answer in front of both buffers, and gives the sum of its sizes.
+fn write_answer(
+    p: Parsed,
+    sizes: [u8; 8],
+    codes: [u8; 256],
+    code_out: &mut [u8],
+    table_out: &mut [u8],
+) -> usize
+    requires { ⌜ Writable p (at sizes) (at codes) (length (now «table_out»)) × (p .terms ≤ length (now «code_out»)) ⌝ }
+    ensures { λ r. ⌜ ((sh : Sheet) → Packs sh p → AnswerWritten sh (at sizes) (at codes) (now («code_out» .entry)) (now («table_out» .entry)) (now («code_out» .exit)) (now («table_out» .exit)) r) ⌝ }
+{
+    let terms = p.terms;
+    bytes::copy(&codes[..terms], code_out);
+    let sorts = p.sorts;
+    bytes::copy(&sizes[..sorts], table_out);
+    write_tables(table_out, p, sizes, codes);
+    sum_of(sizes, sorts)
 }

@@ -3,10 +3,10 @@ use Prim.Native.Nat.{ℕ, _≤_, _<_}
 use native.Mathlib.Decide.{decLt}
 use native.Mathlib.Omega.{arith}
 use mathlib.Core.Path.{_≡_, sym, _∙_}
-use mathlib.Core.List.{List, map}
+use mathlib.Core.List.{map}
 use lib.ListN.{length, List·getD-eq-default}
 use lib.Seq.{ext-getD}
-use Rattle.logic.specs.Sheet.{Sheet, Symbol, Term, Literal, symbolAt, termAt, literalAt}
+use Rattle.logic.specs.Sheet.{Sheet, Literal, symbolAt, termAt, literalAt}
 use Rattle.logic.specs.Structure.{Structure, InSorts, Interprets, codes, code, Holds, Satisfies}
 use Rattle.logic.specs.WellFormed.{WellFormed}
 use Rattle.logic.proofs.Meaning.{length-codes, code-is, arguments-in-sorts, code-below, codes-own}

@@ -89,6 +89,33 @@ pub fn step_at(s: &[u8], at: usize) -> Step
     }
 }
 
+// A sheet's bytes and a position in them: records are handed out one at a time, with no copy of the bytes.
+pub struct Reader<'a> {
+    pub sheet: &'a [u8],
+    pub at: usize,
+}
+
+// A reader of a sheet at a position.
+pub fn reader_at<'a>(sheet: &'a [u8], at: usize) -> Reader<'a>
+    ensures { λ r. ⌜ (r .sheet ≡ sheet .entry) × (r .at ≡ at) ⌝ }
+{
+    Reader { sheet, at }
+}
+
+// The record at the reader's position: the reader is taken apart, and the record step does the work.
+pub fn next<'a>(r: Reader<'a>) -> Step
+    ensures { λ s. ⌜ s ≡ stepAt (now (r .entry .sheet)) (r .entry .at) ⌝ }
+{
+    step_at(r.sheet, r.at)
+}
+
+// The record at a position by way of a reader, for every caller that holds the bytes and a number.
+pub fn record_at(s: &[u8], at: usize) -> Step
+    ensures { λ r. ⌜ r ≡ stepAt (now (s .entry)) at ⌝ }
+{
+    next(reader_at(s, at))
+}
+
 // What the sheet's bytes say: the parsed sheet, or the refusal.
 pub fn parse(s: &[u8]) -> Parsing
     ensures { λ r. ⌜ r ≡ parsing (reading (now (s .entry))) ⌝ }
@@ -267,7 +294,7 @@ fn read_record(p: Parsed, s: &[u8], at: usize) -> Taken
     requires { ⌜ at < length (now s) ⌝ }
     ensures { λ r. ⌜ ((k : Known p) → Took (faultAt (now (s .entry)) at (k .sheet)) (at + 4 + lengthAt (now (s .entry)) at) (kindAt (now (s .entry)) at) (payloadAt (now (s .entry)) at) (k .sheet) r) ⌝ }
 {
-    let Step::Record { kind, start, len } = step_at(s, at) else {
+    let Step::Record { kind, start, len } = record_at(s, at) else {
         return Taken {
             number: 2,
             next: at,

@@ -1,6 +1,6 @@
 -- What the loops of judge keep, over the arrays of a parsed sheet.
 use Prim.Native.Nat.{ℕ, zero, suc, _+_, _*_, _≤_, _<_}
-use native.Mathlib.Nat.{not-suc-le-zero, mul-le-mul, mul-one, one-mul, zero-mul}
+use native.Mathlib.Nat.{not-suc-le-zero, mul-le-mul, mul-one}
 use native.Mathlib.Numerals.{add-one}
 use native.Mathlib.Decide.{decLt}
 use native.Mathlib.Omega.{arith}
@@ -8,28 +8,28 @@ use mathlib.Core.Path.{_≡_, refl, ap, ap₂, sym, _∙_, subst}
 use mathlib.Core.Bool.{Bool, true, false}
 use mathlib.Core.Logic.{inl, inr}
 use mathlib.Core.List.{List, [], _∷_, map}
-use lib.ListN.{length, getD, set, length-set, length-map, replicate}
+use lib.ListN.{length, set, length-map, replicate}
 use lib.Seq.{getD-set-same, getD-set-other}
 use borrow.Author.Tests.{lt-ltb, lt-leb}
 use lib.Dec.{leb, ltb, eqb}
-use Rattle.logic.specs.Sheet.{Sheet, Bound, Symbol, Term, Literal, boundAt, symbolAt, termAt, literalAt, sortAt}
+use Rattle.logic.specs.Sheet.{Sheet, Symbol, boundAt, symbolAt, termAt, literalAt, sortAt}
 use Rattle.logic.specs.Structure.{at, sumTo, code}
 use Rattle.logic.specs.WellFormed.{Each, WellFormed}
 use Rattle.logic.proofs.Meaning.{map-each, sumTo-same, code-is}
 use Rattle.logic.proofs.Codes.{code-past}
 use Rattle.logic.proofs.Decided.{at-set}
-use Rattle.sheet.specs.Layout.{if, within}
+use Rattle.sheet.specs.Layout.{within}
 use Rattle.sheet.specs.Packed.{packed, view, first, second, bit}
 use Rattle.sheet.specs.Views.{Views}
 use Rattle.sheet.specs.declared.Parsed.{Parsed}
 use Rattle.sheet.proofs.View.{at-pad-map, packed-views}
-use Rattle.tables.specs.Layout.{cells, place, offset, extent, decoded}
-use Rattle.tables.specs.Judge.{every, entriesRight, inBounds, agree, holds, statements}
+use Rattle.tables.specs.Layout.{cells, place, offset, decoded}
+use Rattle.tables.specs.Tests.{every, entriesRight, inBounds, agree, holds, statements}
 use Rattle.tables.specs.declared.Judgement.the-variants.{Fits, Broken}
-use Rattle.tables.proofs.Judged.{statements-fit, statements-broken}
+use Rattle.tables.proofs.Laid.{statements-fit, statements-broken}
 use Rattle.tables.specs.Parts.{Packs, width, CellsOf, Small, Extents, Laying}
 use Rattle.tables.proofs.Cells.{cells-same, place-same}
-use Rattle.tables.proofs.Tests.{every-more, false-every, and-both, and-first, and-second, true-within}
+use Rattle.tables.proofs.Tests.{every-more, false-every, and-first, and-second, true-within}
 
 -- two bytes multiply to at most 255 * 255
 pub product-small : (a b : ℕ) → a < 256 → b < 256 → a * b ≤ 65025

@@ -1,19 +1,19 @@
 -- Tests and what they say: a conjunction, a test of all numbers below one, a range, a statement.
-use Prim.Native.Nat.{ℕ, zero, suc, _+_, _≤_, _<_}
+use Prim.Native.Nat.{ℕ, zero, suc, _+_, _<_}
 use native.Mathlib.Nat.{not-suc-le-zero}
 use native.Mathlib.Numerals.{add-one}
 use native.Mathlib.Decide.{decLt}
 use native.Mathlib.Omega.{arith}
-use mathlib.Core.Path.{_≡_, refl, ap, sym, _∙_, subst}
-use mathlib.Core.Bool.{Bool, true, false, not, _&&_, true≢false}
+use mathlib.Core.Path.{_≡_, refl, sym, _∙_, subst}
+use mathlib.Core.Bool.{Bool, true, false, _&&_, true≢false}
 use mathlib.Core.Logic.{_⊎_, inl, inr}
-use lib.Dec.{leb, ltb, eqb}
-use borrow.Author.Tests.{leb-true, leb-false, le-leb, lt-leb, eqb-true, eqb-false, eq-eqb, ne-eqb, not-true, not-false}
+use lib.Dec.{leb, eqb}
+use borrow.Author.Tests.{leb-true, le-leb, eqb-true, eqb-false, not-true, not-false}
 use Rattle.logic.specs.Sheet.{Literal}
 use Rattle.logic.specs.Structure.{Agree, Holds}
 use Rattle.logic.specs.WellFormed.{Within}
 use Rattle.sheet.specs.Layout.{within}
-use Rattle.tables.specs.Judge.{every, agree, holds}
+use Rattle.tables.specs.Tests.{every, agree, holds}
 
 -- a test is true or false
 pub decided : (b : Bool) → (b ≡ true) ⊎ (b ≡ false)

@@ -1,26 +1,22 @@
--- From the parts of judge to the whole, over the arrays of a parsed sheet.
-use Prim.Native.Nat.{ℕ, _+_, _≤_, _<_}
-use native.Mathlib.Numerals.{add-one}
+-- From the tests over a parsed sheet's arrays to those of the sheet.
+use Prim.Native.Nat.{ℕ, _≤_, _<_}
 use native.Mathlib.Omega.{arith}
-use mathlib.Core.Path.{_≡_, refl, ap, ap₂, sym, _∙_, fun-ext}
+use mathlib.Core.Path.{_≡_, refl, ap, ap₂, sym, _∙_}
 use mathlib.Core.Bool.{Bool, true, false, _&&_}
-use mathlib.Core.Logic.{inl, inr}
 use mathlib.Core.List.{List}
 use lib.ListN.{length}
-use lib.Dec.{leb, ltb, eqb}
-use borrow.Author.Tests.{eq-eqb, ne-eqb, lt-ltb, le-ltb}
-use Rattle.logic.specs.Sheet.{Sheet, Bound, boundAt, symbolAt}
-use Rattle.logic.specs.Structure.{at, code}
+use lib.Dec.{leb}
+use borrow.Author.Tests.{eq-eqb, ne-eqb}
+use Rattle.logic.specs.Sheet.{Sheet, boundAt}
+use Rattle.logic.specs.Structure.{at}
 use Rattle.logic.proofs.Meaning.{sumTo-same}
-use Rattle.sheet.specs.Layout.{if, within}
+use Rattle.sheet.specs.Layout.{within}
 use Rattle.sheet.specs.declared.Parsed.{Parsed}
-use Rattle.tables.specs.declared.Judgement.{Judgement}
-use Rattle.tables.specs.declared.Judgement.the-variants.{OutOfBounds, Refused}
-use Rattle.tables.specs.Layout.{cells, offset, extent, decoded}
-use Rattle.tables.specs.Judge.{every, sizesRight, entriesRight, wellLaid, inBounds, statements, judged, Stretch, stretchOf}
-use Rattle.tables.specs.Parts.{Packs, Limited, Extents, Laying, Spans}
+use Rattle.tables.specs.Layout.{offset, extent}
+use Rattle.tables.specs.Tests.{every, sizesRight, entriesRight, wellLaid, inBounds}
+use Rattle.tables.specs.Parts.{Packs, Limited, Extents, Laying}
 use Rattle.tables.proofs.Arrays.{seen, symbols-packed, offset-same}
-use Rattle.tables.proofs.Tests.{decided, every-same, and-first, and-second}
+use Rattle.tables.proofs.Tests.{every-same, and-first, and-second}
 
 -- the counts of a parsed accepted sheet are within the limits
 pub packs-limited : (sh : Sheet) (p : Parsed) → Packs sh p → Limited p
@@ -71,19 +67,6 @@ module _ (sh : Sheet) (p : Parsed) (t : List ℕ) where
     unfolding wellLaid
     entries-decide y s e = rw (sym (sizes-test (y .packs)) ∙ s, eq-eqb (length t) (extent sh (at t)) (e ∙ end-offset y)) refl
 
--- the replies of judge, by its tests
-pub judged-refused : (sh : Sheet) (t : List ℕ) → wellLaid sh t ≡ false → Refused 12 0 ≡ judged sh t
-unfolding judged
-judged-refused sh t e = rw e refl
-
-pub judged-out : (sh : Sheet) (t : List ℕ) → wellLaid sh t ≡ true → inBounds sh (at t) ≡ false → OutOfBounds ≡ judged sh t
-unfolding judged
-judged-out sh t e f = rw (e, f) refl
-
-pub judged-statements : (sh : Sheet) (t : List ℕ) (c : ℕ → ℕ) → wellLaid sh t ≡ true → inBounds sh (at t) ≡ true → ((i : ℕ) → c i ≡ code (decoded sh t) sh i) → statements c 0 (sh .literals) ≡ judged sh t
-unfolding judged
-judged-statements sh t c e f h = rw (e, f) (ap (λ (g : ℕ → ℕ). statements g 0 (sh .literals)) (fun-ext h))
-
 -- the bounds judge the sizes of the sheet's sorts only
 pub in-bounds-same : (sh : Sheet) (size other : ℕ → ℕ) → ((s : ℕ) → s < length (sh .bounds) → size s ≡ other s) → inBounds sh size ≡ inBounds sh other
 unfolding inBounds
@@ -91,24 +74,3 @@ in-bounds-same sh size other h =
     ap₂ _&&_
     (every-same (length (sh .bounds)) _ _ (λ s l. ap (λ (x : ℕ). within (boundAt sh s .floor) (boundAt sh s .ceiling) x) (h s l)))
     (ap (λ (x : ℕ). leb x (sh .total)) (sumTo-same (length (sh .bounds)) size other h))
-
--- the stretches of table of a name, by its tests
-pub span-missing : (sh : Sheet) (p : Parsed) (t : List ℕ) (f : ℕ) → Packs sh p → p .symbols ≤ f → Spans 0 0 (stretchOf sh t f)
-unfolding stretchOf
-span-missing sh p t f k h =
-    elim (decided (wellLaid sh t)) [
-      | inl e ↦ rw (e, le-ltb f (length (sh .symbols)) (omega (arith, symbols-packed sh p k))) (record { begins = refl; ends = refl })
-      | inr e ↦ rw e (record { begins = refl; ends = refl })
-    ]
-
-pub span-refused : (sh : Sheet) (t : List ℕ) (f : ℕ) → wellLaid sh t ≡ false → Spans 0 0 (stretchOf sh t f)
-unfolding stretchOf
-span-refused sh t f e = rw e (record { begins = refl; ends = refl })
-
-pub span-found : (sh : Sheet) (p : Parsed) (sizes offsets t : List ℕ) (f : ℕ) → Laying sh p sizes offsets t → f < p .symbols → wellLaid sh t ≡ true → Spans (at offsets f) (at offsets (f + 1)) (stretchOf sh t f)
-unfolding stretchOf
-span-found sh p sizes offsets t f y h e =
-    let l : f < length (sh .symbols) = omega (arith, symbols-packed sh p (y .packs)) in
-    let from = laid-offset sh p sizes offsets t y f (omega arith) in
-    let to = laid-offset sh p sizes offsets t y (f + 1) (omega arith) in
-    rw (e, lt-ltb f (length (sh .symbols)) l) (record { begins = from; ends = to ∙ rw (add-one f) (omega arith) })

@@ -6,10 +6,10 @@ use Rattle.logic.specs.Structure.{at}
 use Rattle.logic.specs.Order.{firsts}
 
 -- the cell of a row and a column
-abbrev pub cellAt : List (List ℕ) → ℕ → ℕ → ℕ
-cellAt cells row column = at (getD cells row []) column
+abbrev pub gridCell : List (List ℕ) → ℕ → ℕ → ℕ
+gridCell cells row column = at (getD cells row []) column
 
 -- so many rows of so many cells, row by row
 abbrev pub grid : List (List ℕ) → ℕ → ℕ → List ℕ
 grid cells zero columns = []
-grid cells (suc rows) columns = grid cells rows columns ++ firsts columns (cellAt cells rows)
+grid cells (suc rows) columns = grid cells rows columns ++ firsts columns (gridCell cells rows)

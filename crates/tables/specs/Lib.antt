@@ -1,4 +1,4 @@
 pub mod Layout
-pub mod Judge
-pub mod Parts
+pub mod Tests
 pub mod Grid
+pub mod Parts

@@ -1,18 +1,16 @@
 -- What the parts of judge promise. A parsed sheet stands for a sheet where it packs one; sizes and offsets are lists of numbers.
-use Prim.Native.Nat.{ℕ, _+_, _≤_, _<_}
+use Prim.Native.Nat.{ℕ, _≤_, _<_}
 use mathlib.Core.Path.{_≡_}
-use mathlib.Core.Bool.{Bool}
 use mathlib.Core.List.{List}
 use lib.ListN.{length}
 use lib.Dec.{ltb}
-use Rattle.logic.specs.Sheet.{Sheet, Symbol, symbolAt}
-use Rattle.logic.specs.Structure.{at, code}
+use Rattle.logic.specs.Sheet.{Sheet, symbolAt}
+use Rattle.logic.specs.Structure.{at}
 use Rattle.logic.specs.WellFormed.{WellFormed}
 use Rattle.sheet.specs.Layout.{if}
 use Rattle.sheet.specs.Packed.{packed}
 use Rattle.sheet.specs.declared.Parsed.{Parsed}
-use Rattle.tables.specs.Layout.{cells, offset, decoded}
-use Rattle.tables.specs.Judge.{every, entriesRight, Stretch}
+use Rattle.tables.specs.Layout.{cells, offset}
 
 -- the parsed sheet stands for an accepted sheet
 pub record Packs (sh : Sheet) (p : Parsed) : Type 0 where
@@ -48,8 +46,3 @@ pub record Laying (sh : Sheet) (p : Parsed) (sizes offsets t : List ℕ) : Type 
   pub packs : Packs sh p
   pub size : (s : ℕ) → s < length (sh .bounds) → at sizes s ≡ at t s
   pub offset : (f : ℕ) → f ≤ length (sh .symbols) → at offsets f ≡ offset sh (at sizes) f
-
--- a stretch by its start and its end
-pub record Spans (start end : ℕ) (s : Stretch) : Type 0 where
-  pub begins : start ≡ s .start
-  pub ends : end ≡ s .start + s .many

@@ -1,4 +1,4 @@
-// The layout of tables: lengths, offsets and cells; the questions "judge" and "table of a name".
+// The layout of tables: lengths, offsets and cells; the tests of judge, and one table written.
 use sheet::Parsed;
 ghost use Prim.Native.Nat.{ℕ, _+_, _*_, _≤_, _<_};
 ghost use mathlib.Core.Path.{_≡_};
@@ -11,9 +11,9 @@ ghost use Rattle.logic.specs.Structure.{at, code};
 ghost use Rattle.logic.specs.Order.{firsts};
 ghost use Rattle.sheet.specs.Layout.{within};
 ghost use Rattle.tables.specs.Layout.{decoded};
-ghost use Rattle.tables.specs.Judge.{every, entriesRight, inBounds, agree, statements, wellLaid, judged, stretchOf};
+ghost use Rattle.tables.specs.Tests.{every, entriesRight, inBounds, agree, statements, wellLaid};
 ghost use Rattle.tables.specs.Grid.{grid};
-ghost use Rattle.tables.specs.Parts.{Packs, Limited, width, CellsOf, Small, Extents, Laying, Spans};
+ghost use Rattle.tables.specs.Parts.{Packs, Limited, width, CellsOf, Small, Extents, Laying};
 
 // The answer to the question "judge".
 pub enum Judgement {
@@ -100,7 +100,7 @@ fn sizes_right(n: usize, t: &[u8]) -> bool
 }
 
 // The sizes that stand in front of the tables.
-fn sizes_of(n: usize, t: &[u8]) -> [u8; 8]
+pub fn sizes_of(n: usize, t: &[u8]) -> [u8; 8]
     requires { ⌜ n ≤ 8 ⌝ }
     ensures { λ r. ⌜ ((s : ℕ) → s < n → at r s ≡ at (now (t .entry)) s) ⌝ }
 {
@@ -150,7 +150,7 @@ fn entries_right(p: Parsed, sizes: [u8; 8], offsets: [usize; 65], t: &[u8]) -> b
 }
 
 // The sizes lie from floor to ceiling and sum to at most the total.
-fn in_bounds(p: Parsed, sizes: [u8; 8]) -> bool
+pub fn in_bounds(p: Parsed, sizes: [u8; 8]) -> bool
     requires { ⌜ p .sorts ≤ 8 ⌝ }
     ensures { λ r. ⌜ ((sh : Sheet) → Packs sh p → r ≡ inBounds sh (at sizes)) ⌝ }
 {
@@ -195,7 +195,7 @@ fn cell(
 }
 
 // The code of each term, 0 past the terms.
-fn codes_of(p: Parsed, sizes: [u8; 8], offsets: [usize; 65], t: &[u8]) -> [u8; 256]
+pub fn codes_of(p: Parsed, sizes: [u8; 8], offsets: [usize; 65], t: &[u8]) -> [u8; 256]
     requires { ⌜ (p .terms ≤ 128) × Small offsets ⌝ }
     ensures { λ r. ⌜ ((sh : Sheet) → Laying sh p sizes offsets (now (t .entry)) → (i : ℕ) → at r i ≡ code (decoded sh (now (t .entry))) sh i) ⌝ }
 {
@@ -226,7 +226,7 @@ fn agrees(equal: u8, x: u8, y: u8) -> bool
 }
 
 // The first broken statement, the terms having these codes.
-fn first_broken(p: Parsed, codes: [u8; 256]) -> Judgement
+pub fn first_broken(p: Parsed, codes: [u8; 256]) -> Judgement
     requires { ⌜ p .literals ≤ 128 ⌝ }
     ensures { λ r. ⌜ ((sh : Sheet) → Packs sh p → r ≡ statements (at codes) 0 (sh .literals)) ⌝ }
 {
@@ -245,7 +245,7 @@ fn first_broken(p: Parsed, codes: [u8; 256]) -> Judgement
 }
 
 // Cause 12 does not apply: sizes, length and entries are right.
-fn well_laid(p: Parsed, t: &[u8]) -> bool
+pub fn well_laid(p: Parsed, t: &[u8]) -> bool
     requires { ⌜ Limited p ⌝ }
     ensures { λ r. ⌜ ((sh : Sheet) → Packs sh p → r ≡ wellLaid sh (now (t .entry))) ⌝ }
 {
@@ -260,53 +260,6 @@ fn well_laid(p: Parsed, t: &[u8]) -> bool
         return false;
     }
     entries_right(p, sizes, offsets, t)
-}
-
-// Judge, of a parsed sheet: cause 12 first, then the bounds, then the statements.
-pub fn judge_parsed(p: Parsed, t: &[u8]) -> Judgement
-    requires { ⌜ Limited p ⌝ }
-    ensures { λ r. ⌜ ((sh : Sheet) → Packs sh p → r ≡ judged sh (now (t .entry))) ⌝ }
-{
-    if !well_laid(p, t) {
-        return Judgement::Refused {
-            number: 12,
-            place: 0,
-        };
-    }
-    let n = p.sorts;
-    let sizes = sizes_of(n, t);
-    if !in_bounds(p, sizes) {
-        return Judgement::OutOfBounds;
-    }
-    let offsets = extents(p, sizes);
-    let codes = codes_of(p, sizes, offsets, t);
-    first_broken(p, codes)
-}
-
-// A stretch of the tables: where it starts and where it ends.
-pub struct Span {
-    pub start: usize,
-    pub end: usize,
-}
-
-// Table of a name, of a parsed sheet: an empty stretch shows a refusal.
-pub fn span_of(p: Parsed, t: &[u8], name: usize) -> Span
-    requires { ⌜ Limited p ⌝ }
-    ensures { λ r. ⌜ ((sh : Sheet) → Packs sh p → Spans (r .start) (r .end) (stretchOf sh (now (t .entry)) name)) ⌝ }
-{
-    if p.symbols <= name {
-        return Span { start: 0, end: 0 };
-    }
-    if !well_laid(p, t) {
-        return Span { start: 0, end: 0 };
-    }
-    let n = p.sorts;
-    let sizes = sizes_of(n, t);
-    let offsets = extents(p, sizes);
-    Span {
-        start: offsets[name],
-        end: offsets[name + 1],
-    }
 }
 
 // Writes the first cells of a row from a place on.

@@ -11,8 +11,8 @@ use borrow.Author.Needs.{needs}
 use Rattle.sheet.proofs.read_record.Statement.{statement}
 use Rattle.sheet.proofs.read_record.Tie as tie
 
-step-at-requires : tie.Need-step-at-requires
-step-at-requires c κs = search needs
+record-at-requires : tie.Need-record-at-requires
+record-at-requires c κs = search needs
 
 enum-known-kind : tie.Need-enum-known-kind
 enum-known-kind c = search needs
@@ -27,7 +27,7 @@ returns c k =
     is-cut : (b : Bool) → cut (c .before .before .before .args .s .now) (c .before .before .before .args .at) ≡ b → b ≡ true
     is-cut true e = refl
     is-cut false e =
-        absurd (⊎-elim (λ w. omega arith) (λ w. omega arith) (rw (c .before .step-at .ensures ∙ step-uncut (c .before .before .before .args .s .now) (c .before .before .before .args .at) (omega (arith, c .before .before .before .pre .1)) e) at (c .match .keys2)))
+        absurd (⊎-elim (λ w. omega arith) (λ w. omega arith) (rw (c .before .record-at .ensures ∙ step-uncut (c .before .before .before .args .s .now) (c .before .before .before .args .at) (omega (arith, c .before .before .before .pre .1)) e) at (c .match .keys2)))
 
 take-record-requires : tie.Need-take-record-requires
 take-record-requires c κs =
@@ -35,7 +35,7 @@ take-record-requires c κs =
     let g = c .before .kind .given .0 in
     let w =
     step-whole (a .s .now) (a .at) (g .0) (g .1 .0) (g .1 .1 .0)
-    (sym (c .before .before .before .step-at .ensures) ∙ c .before .kind .given .1) in
+    (sym (c .before .before .before .record-at .ensures) ∙ c .before .kind .given .1) in
     let x = w .start in
     let y = w .len in
     let z = w .inside in
@@ -47,9 +47,9 @@ returns-2 c k =
     let g = c .before .before .kind .given .0 in
     took-at (a .s .now) (a .at) (k .sheet) (c .take-record .result) (g .0) (g .1 .0) (g .1 .1 .0)
     (step-whole (a .s .now) (a .at) (g .0) (g .1 .0) (g .1 .1 .0)
-    (sym (c .before .before .before .before .step-at .ensures) ∙ c .before .before .kind .given .1))
+    (sym (c .before .before .before .before .record-at .ensures) ∙ c .before .before .kind .given .1))
     (c .take-record .ensures k)
 
 pub read-record-spec : {M : Type 1} → statement M
 read-record-spec =
-    tie.close (tie.spec step-at-requires enum-known-kind returns take-record-requires returns-2)
+    tie.close (tie.spec record-at-requires enum-known-kind returns take-record-requires returns-2)

@@ -1,20 +1,16 @@
+-- `tables::byte_at` meets its contract. Past the end the default of `at` is 0.
 use mathlib.Core.Path.{sym}
 use lib.ListN.{List·getD-eq-default}
 use borrow.Author.Needs.{needs}
 use Rattle.tables.proofs.byte_at.Statement.{statement}
 use Rattle.tables.proofs.byte_at.Tie as tie
-use Rattle.tables.proofs.byte_at.Reads as reads
-use Rattle.tables.proofs.byte_at.Lts as lts
 
--- src/lib.rt:35:16
 shared-slice-read-result : tie.Need-shared-slice-read-result
 shared-slice-read-result c = search needs
 
--- src/lib.rt:35:9
 returns : tie.Need-returns
 returns c = search needs
 
--- src/lib.rt:31:1
 returns-2 : tie.Need-returns-2
 returns-2 c = sym (List·getD-eq-default (c .before .args .t .now) 0 (c .if1 .left))
 

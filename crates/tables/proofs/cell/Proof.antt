@@ -1,3 +1,4 @@
+-- `tables::cell` meets its contract. The place is row times columns and column; bytes keep it small.
 use Prim.Native.Nat.{ℕ, _+_, _*_}
 use native.Mathlib.Omega.{arith}
 use mathlib.Core.Path.{ap, _∙_}
@@ -7,55 +8,39 @@ use Rattle.tables.proofs.Arrays.{product-small}
 use borrow.Author.Needs.{needs}
 use Rattle.tables.proofs.cell.Statement.{statement}
 use Rattle.tables.proofs.cell.Tie as tie
-use Rattle.tables.proofs.cell.Reads as reads
-use Rattle.tables.proofs.cell.Lts as lts
-use Rattle.tables.proofs.byte_at.Reads as byte-at-reads
-use Rattle.tables.proofs.wide.Reads as wide-reads
-use Rattle.tables.proofs.width_of.Reads as width-of-reads
 
--- src/lib.rt:179:9
 returns : tie.Need-returns
 returns c = search needs
 
--- src/lib.rt:181:40
 array-read-wide : tie.Need-array-read-wide
 array-read-wide c = search needs
 
--- src/lib.rt:181:35
 wide-requires : tie.Need-wide-requires
 wide-requires c κs = search needs
 
--- src/lib.rt:181:9
 width-of-requires : tie.Need-width-of-requires
 width-of-requires c κs = search needs
 
--- src/lib.rt:182:17
 mul-start : tie.Need-mul-start
 mul-start c = search needs
 
--- src/lib.rt:182:17
 array-read-start : tie.Need-array-read-start
 array-read-start c = search needs
 
--- src/lib.rt:183:25
 mul-byte-at : tie.Need-mul-byte-at
 mul-byte-at c = omega (arith, product-small (c .before .before .before .before .args .a) (c .width-of .result) (search needs) (search needs))
 
--- src/lib.rt:183:25
 add-byte-at : tie.Need-add-byte-at
 add-byte-at c = omega (arith, product-small (c .before .before .before .before .args .a) (c .width-of .result) (search needs) (search needs))
 
--- src/lib.rt:183:16
 add-byte-at-2 : tie.Need-add-byte-at-2
 add-byte-at-2 c =
     let s = c .before .before .before .before in
     omega (arith, product-small (s .args .a) (c .width-of .result) (search needs) (search needs), s .pre .0 (s .args .f))
 
--- src/lib.rt:183:5
 byte-at-requires : tie.Need-byte-at-requires
 byte-at-requires c κs = search needs
 
--- src/lib.rt:174:1
 returns-2 : tie.Need-returns-2
 returns-2 c =
     let s = c .before .before .before .before .before .args in

@@ -1,3 +1,4 @@
+-- `tables::cells_of` meets its contract. Rows times columns are the cells, by `cells-packed`.
 use native.Mathlib.Omega.{arith}
 use mathlib.Core.Path.{ap, ap₂, _∙_}
 use Prim.Native.Nat.{_*_}
@@ -7,40 +8,28 @@ use Rattle.tables.proofs.Arrays.{product-small, cells-packed}
 use borrow.Author.Needs.{needs}
 use Rattle.tables.proofs.cells_of.Statement.{statement}
 use Rattle.tables.proofs.cells_of.Tie as tie
-use Rattle.tables.proofs.cells_of.Reads as reads
-use Rattle.tables.proofs.cells_of.Lts as lts
-use Rattle.tables.proofs.wide.Reads as wide-reads
-use Rattle.tables.proofs.width_of.Reads as width-of-reads
 
--- src/lib.rt:55:18
 element-copy-out-wide : tie.Need-element-copy-out-wide
 element-copy-out-wide c = search needs
 
--- src/lib.rt:55:9
 wide-requires : tie.Need-wide-requires
 wide-requires c κs = search needs
 
--- src/lib.rt:56:18
 element-copy-out-wide-2 : tie.Need-element-copy-out-wide-2
 element-copy-out-wide-2 c = search needs
 
--- src/lib.rt:56:9
 wide-requires-2 : tie.Need-wide-requires-2
 wide-requires-2 c κs = search needs
 
--- src/lib.rt:57:9
 width-of-requires : tie.Need-width-of-requires
 width-of-requires c κs = search needs
 
--- src/lib.rt:58:9
 width-of-requires-2 : tie.Need-width-of-requires-2
 width-of-requires-2 c κs = search needs
 
--- src/lib.rt:59:5
 mul-result : tie.Need-mul-result
 mul-result c = omega (arith, product-small (c .before .width-of .result) (c .width-of2 .result) (search needs) (search needs))
 
--- src/lib.rt:51:1
 returns : tie.Need-returns
 returns c =
     let s = c .before .before .before .before .before .before in

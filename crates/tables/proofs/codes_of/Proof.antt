@@ -1,20 +1,13 @@
-use Prim.Native.Nat.{ℕ, _+_, _-_, _*_, _≤_, _<_}
+-- `tables::codes_of` meets its contract. The codes of the first i terms stand, and nothing behind them; `code-now` is the next one.
+use Prim.Native.Nat.{_-_, _≤_}
 use native.Mathlib.Omega.{arith}
-use mathlib.Core.Path.{_≡_, refl, ap, sym, _∙_}
-use mathlib.Core.Bool.{true, false}
+use mathlib.Core.Path.{_≡_, refl, ap, _∙_}
 use lib.ListN.{length, length-set}
-use lib.Dec.{leb, ltb, eqb}
 use Rattle.logic.specs.Structure.{at}
-use Rattle.sheet.specs.Layout.{within}
-use Rattle.tables.specs.Judge.{every}
 use Rattle.tables.proofs.Arrays.{CodesTo, codes-none, codes-more, codes-all}
 use borrow.Author.Needs.{needs}
 use Rattle.tables.proofs.codes_of.Statement.{statement}
 use Rattle.tables.proofs.codes_of.Tie as tie
-use Rattle.tables.proofs.codes_of.Reads as reads
-use Rattle.tables.proofs.codes_of.Lts as lts
-use Rattle.tables.proofs.cell.Reads as cell-reads
-use Rattle.tables.proofs.wide.Reads as wide-reads
 
 abbrev Inv-loop : tie.InvT-loop
 Inv-loop sizes offsets t p codes₀ param1 n i₀ codes i = (i ≤ n) × (n ≡ p .terms) × (length codes ≡ 256) × CodesTo p sizes offsets t i codes
@@ -22,69 +15,53 @@ Inv-loop sizes offsets t p codes₀ param1 n i₀ codes i = (i ≤ n) × (n ≡ 
 abbrev μ-loop : tie.MeasureT-loop
 μ-loop sizes offsets t p codes₀ param1 n i₀ codes i = n - i
 
--- src/lib.rt:195:5
 loop-holds : tie.Need-loop-holds Inv-loop μ-loop
 loop-holds c =
     let s = c .before .before .args in
     (omega arith, refl, refl, codes-none (s .t1) (s .sizes) (s .offsets) (s .t .now) 256)
 
--- src/lib.rt:196:22
 element-copy-out-wide : tie.Need-element-copy-out-wide Inv-loop μ-loop
 element-copy-out-wide c = search needs
 
--- src/lib.rt:196:13
 wide-requires : tie.Need-wide-requires Inv-loop μ-loop
 wide-requires c κs = search needs
 
--- src/lib.rt:197:22
 element-copy-out-wide-2 : tie.Need-element-copy-out-wide-2 Inv-loop μ-loop
 element-copy-out-wide-2 c = search needs
 
--- src/lib.rt:197:13
 wide-requires-2 : tie.Need-wide-requires-2 Inv-loop μ-loop
 wide-requires-2 c κs = search needs
 
--- src/lib.rt:198:22
 element-copy-out-wide-3 : tie.Need-element-copy-out-wide-3 Inv-loop μ-loop
 element-copy-out-wide-3 c = search needs
 
--- src/lib.rt:198:13
 wide-requires-3 : tie.Need-wide-requires-3 Inv-loop μ-loop
 wide-requires-3 c κs = search needs
 
--- src/lib.rt:199:22
 array-read-wide : tie.Need-array-read-wide Inv-loop μ-loop
 array-read-wide c = search needs
 
--- src/lib.rt:199:13
 wide-requires-4 : tie.Need-wide-requires-4 Inv-loop μ-loop
 wide-requires-4 c κs = search needs
 
--- src/lib.rt:200:22
 array-read-wide-2 : tie.Need-array-read-wide-2 Inv-loop μ-loop
 array-read-wide-2 c = search needs
 
--- src/lib.rt:200:13
 wide-requires-5 : tie.Need-wide-requires-5 Inv-loop μ-loop
 wide-requires-5 c κs = search needs
 
--- src/lib.rt:201:20
 cell-requires : tie.Need-cell-requires Inv-loop μ-loop
 cell-requires c κs = search needs
 
--- src/lib.rt:201:9
 array-write-codes : tie.Need-array-write-codes Inv-loop μ-loop
 array-write-codes c = search needs
 
--- src/lib.rt:202:9
 add-i : tie.Need-add-i Inv-loop μ-loop
 add-i c = search needs
 
--- src/lib.rt:195:5
 loop-less : tie.Need-loop-less Inv-loop μ-loop
 loop-less c = search needs
 
--- src/lib.rt:195:5
 loop-again : tie.Need-loop-again Inv-loop μ-loop
 loop-again c =
     let s = c .before .before .before .before .before .before .before .before .before .before .before .before .before .args in
@@ -102,7 +79,6 @@ loop-again c =
           (c .cell .ensures),
     )
 
--- src/lib.rt:187:1
 returns : tie.Need-returns Inv-loop μ-loop
 returns c =
     let s = c .before .before .before .before .args in

@@ -1,22 +1,16 @@
-use Prim.Native.Nat.{ℕ, _+_, _-_, _≤_, _<_}
+-- `tables::entries_right` meets its contract. The entries of the first f tables are right; `entries-test` joins a stretch to its table.
+use Prim.Native.Nat.{ℕ, _+_, _-_, _≤_}
 use native.Mathlib.Omega.{arith}
 use mathlib.Core.Path.{_≡_, refl, ap, sym, _∙_}
-use mathlib.Core.Bool.{true, false}
 use borrow.Author.Tests.{not-true, not-false}
 use lib.Dec.{ltb}
 use Rattle.logic.specs.Structure.{at}
-use Rattle.tables.specs.Judge.{every}
+use Rattle.tables.specs.Tests.{every}
 use Rattle.tables.specs.Parts.{width}
 use Rattle.tables.proofs.Arrays.{EntriesTo, entries-more, entries-broken, entries-all}
 use borrow.Author.Needs.{needs}
 use Rattle.tables.proofs.entries_right.Statement.{statement}
 use Rattle.tables.proofs.entries_right.Tie as tie
-use Rattle.tables.proofs.entries_right.Reads as reads
-use Rattle.tables.proofs.entries_right.Lts as lts
-use Rattle.tables.proofs.below.Reads as below-reads
-use Rattle.tables.proofs.cells_of.Reads as cells-of-reads
-use Rattle.tables.proofs.wide.Reads as wide-reads
-use Rattle.tables.proofs.width_of.Reads as width-of-reads
 
 abbrev Inv-loop : tie.InvT-loop
 Inv-loop sizes t p offsets n f₀ f = (f ≤ n) × (n ≡ p .symbols) × EntriesTo p sizes offsets t f
@@ -24,39 +18,30 @@ Inv-loop sizes t p offsets n f₀ f = (f ≤ n) × (n ≡ p .symbols) × Entries
 abbrev μ-loop : tie.MeasureT-loop
 μ-loop sizes t p offsets n f₀ f = n - f
 
--- src/lib.rt:136:5
 loop-holds : tie.Need-loop-holds Inv-loop μ-loop
 loop-holds c = (omega arith, refl, λ sh y. refl)
 
--- src/lib.rt:137:13
 cells-of-requires : tie.Need-cells-of-requires Inv-loop μ-loop
 cells-of-requires c κs = search needs
 
--- src/lib.rt:138:27
 element-copy-out-wide : tie.Need-element-copy-out-wide Inv-loop μ-loop
 element-copy-out-wide c = search needs
 
--- src/lib.rt:138:13
 wide-requires : tie.Need-wide-requires Inv-loop μ-loop
 wide-requires c κs = search needs
 
--- src/lib.rt:139:13
 width-of-requires : tie.Need-width-of-requires Inv-loop μ-loop
 width-of-requires c κs = search needs
 
--- src/lib.rt:140:20
 mul-from : tie.Need-mul-from Inv-loop μ-loop
 mul-from c = search needs
 
--- src/lib.rt:140:20
 array-read-from : tie.Need-array-read-from Inv-loop μ-loop
 array-read-from c = search needs
 
--- src/lib.rt:141:13
 below-requires : tie.Need-below-requires Inv-loop μ-loop
 below-requires c κs = (c .before .before .before .before .before .before .before .pre .1 (c .before .before .before .before .before .loop .f), c .before .before .before .cells-of .ensures .small)
 
--- src/lib.rt:142:13
 returns : tie.Need-returns Inv-loop μ-loop
 returns c =
     let s = c .before .before .before .before .before .before .before .before .before .args in
@@ -67,15 +52,12 @@ returns c =
     let e = ap (λ (x : ℕ). every (m .result) (λ k. ltb (at (s .t .now) (at (s .t3) (l .f) + k)) x)) (sym w) ∙ sym (r .ensures) in
     entries-broken (s .t1) (s .sizes) (s .t3) (s .t .now) (l .f) (m .result) (omega arith) (m .ensures) (e ∙ not-true (r .result) (c .if1 .taken))
 
--- src/lib.rt:144:9
 add-f : tie.Need-add-f Inv-loop μ-loop
 add-f c = search needs
 
--- src/lib.rt:136:5
 loop-less : tie.Need-loop-less Inv-loop μ-loop
 loop-less c = search needs
 
--- src/lib.rt:136:5
 loop-again : tie.Need-loop-again Inv-loop μ-loop
 loop-again c =
     let s = c .before .before .before .before .before .before .before .before .before .args in
@@ -86,7 +68,6 @@ loop-again c =
     let e = ap (λ (x : ℕ). every (m .result) (λ k. ltb (at (s .t .now) (at (s .t3) (l .f) + k)) x)) (sym w) ∙ sym (r .ensures) in
     (omega arith, refl, entries-more (s .t1) (s .sizes) (s .t3) (s .t .now) (l .f) (m .result) (l .inv .2) (omega arith) (m .ensures) (e ∙ not-false (r .result) (c .if1 .left)))
 
--- src/lib.rt:130:1
 returns-2 : tie.Need-returns-2 Inv-loop μ-loop
 returns-2 c =
     let s = c .before .before .before .args in

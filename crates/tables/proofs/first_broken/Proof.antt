@@ -1,22 +1,16 @@
-use Prim.Native.Nat.{ℕ, _+_, _-_, _*_, _≤_, _<_}
+-- `tables::first_broken` meets its contract. The first k statements hold; the first that does not is the reply.
+use Prim.Native.Nat.{ℕ, _-_, _≤_}
 use native.Mathlib.Nat.{not-suc-le-zero}
 use native.Mathlib.Omega.{arith}
 use borrow.Author.Tests.{not-true, not-false}
 use mathlib.Core.Path.{_≡_, refl, ap₂, sym, _∙_}
-use mathlib.Core.Bool.{true, false}
-use lib.ListN.{length}
-use lib.Dec.{leb, ltb, eqb}
+use lib.Dec.{eqb}
 use Rattle.logic.specs.Structure.{at}
-use Rattle.sheet.specs.Layout.{within}
-use Rattle.tables.specs.Judge.{agree}
+use Rattle.tables.specs.Tests.{agree}
 use Rattle.tables.proofs.Arrays.{HoldTo, hold-broken, hold-more, hold-all}
 use borrow.Author.Needs.{needs}
 use Rattle.tables.proofs.first_broken.Statement.{statement}
 use Rattle.tables.proofs.first_broken.Tie as tie
-use Rattle.tables.proofs.first_broken.Reads as reads
-use Rattle.tables.proofs.first_broken.Lts as lts
-use Rattle.tables.proofs.agrees.Reads as agrees-reads
-use Rattle.tables.proofs.wide.Reads as wide-reads
 
 abbrev Inv-loop : tie.InvT-loop
 Inv-loop p codes n k₀ k = (k ≤ n) × (n ≡ p .literals) × HoldTo p (at codes) k
@@ -24,43 +18,33 @@ Inv-loop p codes n k₀ k = (k ≤ n) × (n ≡ p .literals) × HoldTo p (at cod
 abbrev μ-loop : tie.MeasureT-loop
 μ-loop p codes n k₀ k = n - k
 
--- src/lib.rt:224:5
 loop-holds : tie.Need-loop-holds Inv-loop μ-loop
 loop-holds c = (omega arith, refl, λ sh k j h. absurd (not-suc-le-zero h))
 
--- src/lib.rt:225:22
 element-copy-out-wide : tie.Need-element-copy-out-wide Inv-loop μ-loop
 element-copy-out-wide c = search needs
 
--- src/lib.rt:225:13
 wide-requires : tie.Need-wide-requires Inv-loop μ-loop
 wide-requires c κs = search needs
 
--- src/lib.rt:226:22
 element-copy-out-wide-2 : tie.Need-element-copy-out-wide-2 Inv-loop μ-loop
 element-copy-out-wide-2 c = search needs
 
--- src/lib.rt:226:13
 wide-requires-2 : tie.Need-wide-requires-2 Inv-loop μ-loop
 wide-requires-2 c κs = search needs
 
--- src/lib.rt:227:21
 element-copy-out-equal : tie.Need-element-copy-out-equal Inv-loop μ-loop
 element-copy-out-equal c = search needs
 
--- src/lib.rt:228:27
 array-read-agrees : tie.Need-array-read-agrees Inv-loop μ-loop
 array-read-agrees c = search needs
 
--- src/lib.rt:228:37
 array-read-agrees-2 : tie.Need-array-read-agrees-2 Inv-loop μ-loop
 array-read-agrees-2 c = search needs
 
--- src/lib.rt:228:13
 agrees-requires : tie.Need-agrees-requires Inv-loop μ-loop
 agrees-requires c κs = search needs
 
--- src/lib.rt:229:13
 returns : tie.Need-returns Inv-loop μ-loop
 returns c =
     let s = c .before .before .before .before .before .before .before .before .before .args in
@@ -69,15 +53,12 @@ returns c =
     let e = ap₂ (λ (x y : ℕ). agree (eqb (at (s .t1 .equal) (l .k)) 1) (eqb (at (s .t2) x) (at (s .t2) y))) (sym (c .before .before .before .before .before .wide .ensures .0)) (sym (c .before .before .before .wide2 .ensures .0)) ∙ sym (r .ensures) in
     hold-broken (s .t1) (at (s .t2)) (l .k) (l .inv .2) (omega arith) (e ∙ not-true (r .result) (c .if1 .taken))
 
--- src/lib.rt:231:9
 add-k : tie.Need-add-k Inv-loop μ-loop
 add-k c = search needs
 
--- src/lib.rt:224:5
 loop-less : tie.Need-loop-less Inv-loop μ-loop
 loop-less c = search needs
 
--- src/lib.rt:224:5
 loop-again : tie.Need-loop-again Inv-loop μ-loop
 loop-again c =
     let s = c .before .before .before .before .before .before .before .before .before .args in
@@ -86,7 +67,6 @@ loop-again c =
     let e = ap₂ (λ (x y : ℕ). agree (eqb (at (s .t1 .equal) (l .k)) 1) (eqb (at (s .t2) x) (at (s .t2) y))) (sym (c .before .before .before .before .before .wide .ensures .0)) (sym (c .before .before .before .wide2 .ensures .0)) ∙ sym (r .ensures) in
     (omega arith, refl, hold-more (s .t1) (at (s .t2)) (l .k) (l .inv .2) (omega arith) (e ∙ not-false (r .result) (c .if1 .left)))
 
--- src/lib.rt:218:1
 returns-2 : tie.Need-returns-2 Inv-loop μ-loop
 returns-2 c =
     let s = c .before .before .args in

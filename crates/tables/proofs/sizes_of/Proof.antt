@@ -1,15 +1,13 @@
-use Prim.Native.Nat.{ℕ, _+_, _-_, _≤_, _<_}
+-- `tables::sizes_of` meets its contract. The sizes so far are copied.
+use Prim.Native.Nat.{ℕ, _-_, _≤_, _<_}
 use native.Mathlib.Omega.{arith}
-use mathlib.Core.Path.{_≡_, refl, sym, _∙_}
+use mathlib.Core.Path.{_≡_}
 use lib.ListN.{length, length-set}
 use Rattle.logic.specs.Structure.{at}
 use Rattle.tables.proofs.Arrays.{copied-more}
 use borrow.Author.Needs.{needs}
 use Rattle.tables.proofs.sizes_of.Statement.{statement}
 use Rattle.tables.proofs.sizes_of.Tie as tie
-use Rattle.tables.proofs.sizes_of.Reads as reads
-use Rattle.tables.proofs.sizes_of.Lts as lts
-use Rattle.tables.proofs.byte_at.Reads as byte-at-reads
 
 abbrev Inv-loop : tie.InvT-loop
 Inv-loop n t sizes₀ s₀ sizes s = (s ≤ n) × (length sizes ≡ 8) × ((k : ℕ) → k < s → at sizes k ≡ at t k)
@@ -17,33 +15,26 @@ Inv-loop n t sizes₀ s₀ sizes s = (s ≤ n) × (length sizes ≡ 8) × ((k : 
 abbrev μ-loop : tie.MeasureT-loop
 μ-loop n t sizes₀ s₀ sizes s = n - s
 
--- src/lib.rt:106:5
 loop-holds : tie.Need-loop-holds Inv-loop μ-loop
 loop-holds c = search needs
 
--- src/lib.rt:107:20
 byte-at-requires : tie.Need-byte-at-requires Inv-loop μ-loop
 byte-at-requires c κs = search needs
 
--- src/lib.rt:107:9
 array-write-sizes : tie.Need-array-write-sizes Inv-loop μ-loop
 array-write-sizes c = search needs
 
--- src/lib.rt:108:9
 add-s : tie.Need-add-s Inv-loop μ-loop
 add-s c = search needs
 
--- src/lib.rt:106:5
 loop-less : tie.Need-loop-less Inv-loop μ-loop
 loop-less c = search needs
 
--- src/lib.rt:106:5
 loop-again : tie.Need-loop-again Inv-loop μ-loop
 loop-again c =
     let l = c .before .before .loop in
     (omega arith, simp length-set (l .inv .1), copied-more (l .sizes) (c .before .before .before .before .args .t .now) (l .s) (c .byte-at .result) (omega arith) (c .byte-at .ensures) (l .inv .2))
 
--- src/lib.rt:100:1
 returns : tie.Need-returns Inv-loop μ-loop
 returns c = λ s h. c .before .loop .inv .2 s (omega arith)
 

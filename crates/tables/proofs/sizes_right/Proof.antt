@@ -1,19 +1,18 @@
-use Prim.Native.Nat.{ℕ, _+_, _-_, _*_, _≤_, _<_}
+-- `tables::sizes_right` meets its contract. Every size so far lies from 1 to 16; the first that does not makes the test false.
+use Prim.Native.Nat.{_-_, _≤_}
 use native.Mathlib.Omega.{arith}
-use mathlib.Core.Path.{_≡_, refl, ap, sym, _∙_}
-use mathlib.Core.Bool.{true, false}
+use mathlib.Core.Path.{_≡_, sym}
+use mathlib.Core.Bool.{true}
 use lib.ListN.{length}
-use lib.Dec.{leb, ltb, eqb}
+use lib.Dec.{leb}
 use Rattle.logic.specs.Structure.{at}
 use Rattle.sheet.specs.Layout.{within}
-use Rattle.tables.specs.Judge.{every}
+use Rattle.tables.specs.Tests.{every}
 use borrow.Author.Tests.{lt-leb, le-leb}
 use Rattle.tables.proofs.Tests.{and-both, and-first, and-second, false-every, every-more, true-within}
 use borrow.Author.Needs.{needs}
 use Rattle.tables.proofs.sizes_right.Statement.{statement}
 use Rattle.tables.proofs.sizes_right.Tie as tie
-use Rattle.tables.proofs.sizes_right.Reads as reads
-use Rattle.tables.proofs.sizes_right.Lts as lts
 
 abbrev Inv-loop : tie.InvT-loop
 Inv-loop n t s₀ s = (s ≤ n) × (n ≤ length t) × (every s (λ j. within 1 16 (at t j)) ≡ true)
@@ -21,45 +20,36 @@ Inv-loop n t s₀ s = (s ≤ n) × (n ≤ length t) × (every s (λ j. within 1 
 abbrev μ-loop : tie.MeasureT-loop
 μ-loop n t s₀ s = n - s
 
--- src/lib.rt:84:9
 returns : tie.Need-returns Inv-loop μ-loop
 returns c = sym (and-first (leb (c .before .args .n) (length (c .before .args .t .now))) _ (lt-leb (c .before .args .n) (length (c .before .args .t .now)) (c .if1 .taken)))
 
--- src/lib.rt:87:5
 loop-holds : tie.Need-loop-holds Inv-loop μ-loop
 loop-holds c = search needs
 
--- src/lib.rt:88:12
 shared-slice-read-if2 : tie.Need-shared-slice-read-if2 Inv-loop μ-loop
 shared-slice-read-if2 c = search needs
 
--- src/lib.rt:89:13
 returns-2 : tie.Need-returns-2 Inv-loop μ-loop
 returns-2 c =
     let s = c .before .before .before .before .before .args in
     let l = c .before .before .before .loop in
     sym (and-second (leb (s .n) (length (s .t .now))) _ (false-every (s .n) _ (l .s) (omega arith) (and-first _ _ (lt-leb 1 (at (s .t .now) (l .s)) (omega arith)))))
 
--- src/lib.rt:91:17
 shared-slice-read-if3 : tie.Need-shared-slice-read-if3 Inv-loop μ-loop
 shared-slice-read-if3 c = search needs
 
--- src/lib.rt:92:13
 returns-3 : tie.Need-returns-3 Inv-loop μ-loop
 returns-3 c =
     let s = c .before .before .before .before .before .before .before .args in
     let l = c .before .before .before .before .before .loop in
     sym (and-second (leb (s .n) (length (s .t .now))) _ (false-every (s .n) _ (l .s) (omega arith) (and-second (leb 1 (at (s .t .now) (l .s))) _ (lt-leb (at (s .t .now) (l .s)) 16 (omega arith)))))
 
--- src/lib.rt:94:9
 add-s : tie.Need-add-s Inv-loop μ-loop
 add-s c = search needs
 
--- src/lib.rt:87:5
 loop-less : tie.Need-loop-less Inv-loop μ-loop
 loop-less c = search needs
 
--- src/lib.rt:87:5
 loop-again : tie.Need-loop-again Inv-loop μ-loop
 loop-again c =
     let s = c .before .before .before .before .before .before .before .args in
@@ -67,7 +57,6 @@ loop-again c =
     let low : 1 ≤ at (s .t .now) (l .s) = omega (arith, c .before .before .if2 .left) in
     (omega arith, omega arith, every-more (l .s) _ (l .inv .2) (true-within 1 16 (at (s .t .now) (l .s)) (low, omega arith)))
 
--- src/lib.rt:80:1
 returns-4 : tie.Need-returns-4 Inv-loop μ-loop
 returns-4 c =
     let s = c .before .before .before .args in

@@ -1,3 +1,4 @@
+-- `tables::width_of` meets its contract. The test is that of `width`.
 use native.Mathlib.Omega.{arith}
 use mathlib.Core.Path.{sym, _∙_}
 use borrow.Author.Tests.{le-ltb}
@@ -6,24 +7,17 @@ use Rattle.tables.proofs.Arrays.{width-there}
 use borrow.Author.Needs.{needs}
 use Rattle.tables.proofs.width_of.Statement.{statement}
 use Rattle.tables.proofs.width_of.Tie as tie
-use Rattle.tables.proofs.width_of.Reads as reads
-use Rattle.tables.proofs.width_of.Lts as lts
-use Rattle.tables.proofs.wide.Reads as wide-reads
 
--- src/lib.rt:45:21
 array-read-wide : tie.Need-array-read-wide
 array-read-wide c = search needs
 
--- src/lib.rt:45:9
 wide-requires : tie.Need-wide-requires
 wide-requires c κs = search needs
 
--- src/lib.rt:45:9
 returns : tie.Need-returns
 returns c =
     (c .wide .ensures .0 ∙ sym (width-there (at (c .before .before .args .t1)) (c .before .before .args .s) (c .before .if1 .taken)), c .wide .ensures .1)
 
--- src/lib.rt:41:1
 returns-2 : tie.Need-returns-2
 returns-2 c = rw (le-ltb (c .before .args .s) 8 (c .if1 .left)) (omega arith)
 

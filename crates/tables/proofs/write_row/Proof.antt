@@ -1,3 +1,4 @@
+-- `tables::write_row` meets its contract. The first k cells are pasted over what stood there.
 use Prim.Native.Nat.{ℕ, _+_, _-_, _≤_}
 use native.Mathlib.Omega.{arith}
 use mathlib.Core.Path.{_≡_, refl, ap, _∙_}
@@ -10,8 +11,6 @@ use Rattle.tables.proofs.Grids.{cell-more}
 use borrow.Author.Needs.{needs}
 use Rattle.tables.proofs.write_row.Statement.{statement}
 use Rattle.tables.proofs.write_row.Tie as tie
-use Rattle.tables.proofs.write_row.Reads as reads
-use Rattle.tables.proofs.write_row.Lts as lts
 
 abbrev Inv-loop : tie.InvT-loop
 Inv-loop out₀ start columns row k₀ out k =
@@ -20,31 +19,24 @@ Inv-loop out₀ start columns row k₀ out k =
 abbrev μ-loop : tie.MeasureT-loop
 μ-loop out₀ start columns row k₀ out k = columns - k
 
--- src/lib.rt:318:5
 loop-holds : tie.Need-loop-holds Inv-loop μ-loop
 loop-holds c = (omega arith, refl, paste-zero (c .args .out .now) (c .args .start) (firsts (c .args .columns) (at (c .args .t3))))
 
--- src/lib.rt:319:26
 array-read-out : tie.Need-array-read-out Inv-loop μ-loop
 array-read-out c = search needs
 
--- src/lib.rt:319:13
 add-out : tie.Need-add-out Inv-loop μ-loop
 add-out c = search needs
 
--- src/lib.rt:319:9
 slice-write-out : tie.Need-slice-write-out Inv-loop μ-loop
 slice-write-out c = search needs
 
--- src/lib.rt:320:9
 add-k : tie.Need-add-k Inv-loop μ-loop
 add-k c = search needs
 
--- src/lib.rt:318:5
 loop-less : tie.Need-loop-less Inv-loop μ-loop
 loop-less c = search needs
 
--- src/lib.rt:318:5
 loop-again : tie.Need-loop-again Inv-loop μ-loop
 loop-again c =
     let s = c .before .before .args in
@@ -54,11 +46,9 @@ loop-again c =
       ap (λ (d : List ℕ). set d (s .start + l .k) (at (s .t3) (l .k))) (l .inv .2) ∙ cell-more (s .out .now) (s .start) (s .columns) (at (s .t3)) (l .k) (omega arith) (omega arith),
     )
 
--- src/lib.rt:313:1
 same-length : tie.Need-same-length Inv-loop μ-loop
 same-length c = search needs
 
--- src/lib.rt:313:1
 returns : tie.Need-returns Inv-loop μ-loop
 returns c =
     let e : c .before .loop .k ≡ c .before .before .args .columns = omega arith in

@@ -1,16 +1,14 @@
+-- `tables::write_table` meets its contract. The first rows are the grid so far.
 use Prim.Native.Nat.{_+_, _-_, _*_, _≤_}
 use native.Mathlib.Omega.{arith}
 use mathlib.Core.Path.{_≡_, refl, ap, sym, _∙_}
 use lib.ListN.{length, take}
 use lib.Seq.{take-all}
-use Rattle.tables.specs.Grid.{cellAt, grid}
+use Rattle.tables.specs.Grid.{gridCell, grid}
 use Rattle.tables.proofs.Grids.{next-row, row-start, row-more, length-row}
 use borrow.Author.Needs.{needs}
 use Rattle.tables.proofs.write_table.Statement.{statement}
 use Rattle.tables.proofs.write_table.Tie as tie
-use Rattle.tables.proofs.write_table.Reads as reads
-use Rattle.tables.proofs.write_table.Lts as lts
-use Rattle.tables.proofs.write_row.Reads as write-row-reads
 
 abbrev Inv-loop : tie.InvT-loop
 Inv-loop out₀ rows columns cells start₀ r₀ out start r =
@@ -19,41 +17,33 @@ Inv-loop out₀ rows columns cells start₀ r₀ out start r =
 abbrev μ-loop : tie.MeasureT-loop
 μ-loop out₀ rows columns cells start₀ r₀ out start r = rows - r
 
--- src/lib.rt:331:5
 loop-holds : tie.Need-loop-holds Inv-loop μ-loop
 loop-holds c = (omega arith, omega arith, refl, refl)
 
--- src/lib.rt:332:19
 mul-row : tie.Need-mul-row Inv-loop μ-loop
 mul-row c = search needs
 
--- src/lib.rt:332:19
 array-copy-out-row : tie.Need-array-copy-out-row Inv-loop μ-loop
 array-copy-out-row c = search needs
 
--- src/lib.rt:333:9
 write-row-requires : tie.Need-write-row-requires Inv-loop μ-loop
 write-row-requires c κs =
     let s = c .before .before .before .before .before .args in
     let l = c .before .before .before .loop in
     omega (arith, next-row (l .r) (s .rows) (s .columns) (l .start) (omega arith) (l .inv .1))
 
--- src/lib.rt:334:9
 add-start : tie.Need-add-start Inv-loop μ-loop
 add-start c =
     let s = c .before .before .before .before .before .before .before .before .args in
     let l = c .before .before .before .before .before .before .loop in
     omega (arith, next-row (l .r) (s .rows) (s .columns) (l .start) (omega arith) (l .inv .1), c .before .before .before .before .before .before .before .before .good .0 .0)
 
--- src/lib.rt:335:9
 add-r : tie.Need-add-r Inv-loop μ-loop
 add-r c = search needs
 
--- src/lib.rt:331:5
 loop-less : tie.Need-loop-less Inv-loop μ-loop
 loop-less c = search needs
 
--- src/lib.rt:331:5
 loop-again : tie.Need-loop-again Inv-loop μ-loop
 loop-again c =
     let s = c .before .before .before .before .before .before .before .before .args in
@@ -63,15 +53,13 @@ loop-again c =
     let e = c .before .before .write-row .ensures in (
       omega arith,
       row-start (l .r) (s .columns) (l .start) (l .inv .1),
-      ap length e ∙ length-row (l .out) (l .start) (s .columns) (cellAt (s .t2) (l .r)) h ∙ l .inv .2,
+      ap length e ∙ length-row (l .out) (l .start) (s .columns) (gridCell (s .t2) (l .r)) h ∙ l .inv .2,
       ap (take (l .start + s .columns)) e ∙ row-more (l .out) (s .t2) (l .r) (s .columns) (l .start) h (l .inv .3),
     )
 
--- src/lib.rt:325:1
 same-length : tie.Need-same-length Inv-loop μ-loop
 same-length c = search needs
 
--- src/lib.rt:325:1
 returns : tie.Need-returns Inv-loop μ-loop
 returns c =
     let s = c .before .before .before .args in

@@ -1,39 +1,28 @@
+-- `judge::judge_parsed` meets its contract. Each return is one law of proofs/Replies.antt.
 use mathlib.Core.Path.{sym, _∙_}
 use borrow.Author.Tests.{not-true, not-false}
 use Rattle.logic.specs.Structure.{at}
-use Rattle.tables.proofs.Whole.{laying, copied-sizes, in-bounds-same, judged-refused, judged-out, judged-statements}
+use Rattle.tables.proofs.Whole.{laying, copied-sizes, in-bounds-same}
+use Rattle.judge.proofs.Replies.{judged-refused, judged-out, judged-statements}
 use borrow.Author.Needs.{needs}
-use Rattle.tables.proofs.judge_parsed.Statement.{statement}
-use Rattle.tables.proofs.judge_parsed.Tie as tie
-use Rattle.tables.proofs.judge_parsed.Reads as reads
-use Rattle.tables.proofs.judge_parsed.Lts as lts
-use Rattle.tables.proofs.codes_of.Reads as codes-of-reads
-use Rattle.tables.proofs.extents.Reads as extents-reads
-use Rattle.tables.proofs.first_broken.Reads as first-broken-reads
-use Rattle.tables.proofs.in_bounds.Reads as in-bounds-reads
-use Rattle.tables.proofs.sizes_of.Reads as sizes-of-reads
-use Rattle.tables.proofs.well_laid.Reads as well-laid-reads
+use Rattle.judge.proofs.judge_parsed.Statement.{statement}
+use Rattle.judge.proofs.judge_parsed.Tie as tie
 
--- src/lib.rt:259:9
 well-laid-requires : tie.Need-well-laid-requires
 well-laid-requires c κs = search needs
 
--- src/lib.rt:260:9
 returns : tie.Need-returns
 returns c =
     let s = c .before .before .before .args in
     let r = c .before .well-laid in
     λ sh k. judged-refused sh (s .t .now) (sym (r .ensures sh k) ∙ not-true (r .result) (c .if1 .taken))
 
--- src/lib.rt:263:9
 sizes-of-requires : tie.Need-sizes-of-requires
 sizes-of-requires c κs = search needs
 
--- src/lib.rt:264:9
 in-bounds-requires : tie.Need-in-bounds-requires
 in-bounds-requires c κs = search needs
 
--- src/lib.rt:265:9
 returns-2 : tie.Need-returns-2
 returns-2 c =
     let s = c .before .before .before .before .before .before .args in
@@ -44,19 +33,15 @@ returns-2 c =
     judged-out sh (s .t .now) (sym (w .ensures sh k) ∙ not-false (w .result) (c .before .before .before .if1 .left))
     (in-bounds-same sh (at (s .t .now)) (at (z .result)) (copied-sizes sh (s .p) (z .result) (s .t .now) k (z .ensures)) ∙ sym (r .ensures sh k) ∙ not-true (r .result) (c .if2 .taken))
 
--- src/lib.rt:267:9
 extents-requires : tie.Need-extents-requires
 extents-requires c κs = search needs
 
--- src/lib.rt:268:9
 codes-of-requires : tie.Need-codes-of-requires
 codes-of-requires c κs = search needs
 
--- src/lib.rt:269:5
 first-broken-requires : tie.Need-first-broken-requires
 first-broken-requires c κs = search needs
 
--- src/lib.rt:255:1
 returns-3 : tie.Need-returns-3
 returns-3 c =
     let s = c .before .before .before .before .before .before .before .before .before .args in

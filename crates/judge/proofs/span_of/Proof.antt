@@ -1,62 +1,48 @@
+-- `judge::span_of` meets its contract. Each return is one law of proofs/Replies.antt.
 use native.Mathlib.Omega.{arith}
 use mathlib.Core.Path.{sym, _∙_}
 use borrow.Author.Tests.{not-true, not-false}
-use Rattle.tables.proofs.Whole.{laying, span-missing, span-refused, span-found}
+use Rattle.tables.proofs.Whole.{laying}
+use Rattle.judge.proofs.Replies.{span-missing, span-refused, span-found}
 use borrow.Author.Needs.{needs}
-use Rattle.tables.proofs.span_of.Statement.{statement}
-use Rattle.tables.proofs.span_of.Tie as tie
-use Rattle.tables.proofs.span_of.Reads as reads
-use Rattle.tables.proofs.span_of.Lts as lts
-use Rattle.tables.proofs.extents.Reads as extents-reads
-use Rattle.tables.proofs.sizes_of.Reads as sizes-of-reads
-use Rattle.tables.proofs.well_laid.Reads as well-laid-reads
+use Rattle.judge.proofs.span_of.Statement.{statement}
+use Rattle.judge.proofs.span_of.Tie as tie
 
--- src/lib.rt:284:9
 returns : tie.Need-returns
 returns c =
     let s = c .before .before .before .args in
     λ sh k. span-missing sh (s .p) (s .t .now) (s .name) k (c .if1 .taken)
 
--- src/lib.rt:286:9
 well-laid-requires : tie.Need-well-laid-requires
 well-laid-requires c κs = search needs
 
--- src/lib.rt:287:9
 returns-2 : tie.Need-returns-2
 returns-2 c =
     let s = c .before .before .before .before .before .args in
     let r = c .before .well-laid in
     λ sh k. span-refused sh (s .t .now) (s .name) (sym (r .ensures sh k) ∙ not-true (r .result) (c .if2 .taken))
 
--- src/lib.rt:290:9
 sizes-of-requires : tie.Need-sizes-of-requires
 sizes-of-requires c κs = search needs
 
--- src/lib.rt:291:19
 extents-requires : tie.Need-extents-requires
 extents-requires c κs = search needs
 
--- src/lib.rt:293:16
 mul-t10 : tie.Need-mul-t10
 mul-t10 c = search needs
 
--- src/lib.rt:293:16
 array-read-t13 : tie.Need-array-read-t13
 array-read-t13 c = search needs
 
--- src/lib.rt:294:22
 add-t14 : tie.Need-add-t14
 add-t14 c = search needs
 
--- src/lib.rt:294:14
 mul-t15 : tie.Need-mul-t15
 mul-t15 c = search needs
 
--- src/lib.rt:294:14
 array-read-t18 : tie.Need-array-read-t18
 array-read-t18 c = search needs
 
--- src/lib.rt:279:1
 returns-3 : tie.Need-returns-3
 returns-3 c =
     let s = c .before .before .before .before .before .before .before .args in
