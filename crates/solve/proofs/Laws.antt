@@ -6,27 +6,42 @@ use mathlib.Core.List.{List}
 use mathlib.Core.Logic.{_⊎_, inl, inr}
 use native.Mathlib.Omega.{arith}
 use native.Mathlib.Decide.{decLt, ℕ-discrete}
-use lib.ListN.{length, set}
+use lib.ListN.{length, set, replicate, length-set}
+use lib.Dec.{eqb}
+use borrow.Author.Tests.{eqb-true, eqb-false}
 use borrow.Author.Count.{below-more}
 use Rattle.logic.specs.Structure.{at}
 use Rattle.logic.specs.Problem.{Problem, WellSorted, Consistent, Extends, Dead, undecided}
 use Rattle.logic.proofs.Consistent.{Unused, equal-codes, swapped, swapped-consistent, swapped-second, swapped-extends}
-use Rattle.logic.proofs.Decided.{at-set, at-set-same, at-set-other, decide-more}
+use Rattle.logic.proofs.Decided.{at-set, at-set-same, at-set-other, at-zeros, decide-more, decide-less}
 use Rattle.codes.specs.Tested.{Decides, Padded}
-use Rattle.propagate.specs.Knowledge.{Struck, Propagated}
-use Rattle.solve.specs.Solved.{Solved, Used, Fresh, Worth, Covers, Branches, Read}
+use Rattle.propagate.specs.Knowledge.{Struck}
+use Rattle.solve.specs.Solved.{Solved, Knows, Used, Fresh, Worth, Covers, Branches, Read, Node}
 
 -- ---- flags of the codes in use
-pub used-more : (flags : List ℕ) (sort decided : ℕ → ℕ) (s j v : ℕ) → length flags ≡ 16 → v < 16 → v ≡ decided j
-    → ((k : ℕ) → k < j → sort k ≡ s → decided k < 16 → at flags (decided k) ≡ 1)
-    → (k : ℕ) → k < j + 1 → sort k ≡ s → decided k < 16 → at (set flags v 1) (decided k) ≡ 1
-used-more flags sort decided s j v len hv ev all =
-    below-more (λ (k : ℕ). sort k ≡ s → decided k < 16 → at (set flags v 1) (decided k) ≡ 1) j
-    (λ k h e d. kept k (all k h e d))
-    (λ e d. rw (← ev) (at-set-same flags v 1 (omega arith)))
-  where
-    kept : (k : ℕ) → at flags (decided k) ≡ 1 → at (set flags v 1) (decided k) ≡ 1
-    kept k e = elim (at-set flags v 1 (decided k)) [ inl x ↦ x ∙ e | inr x ↦ x .1 ]
+-- the flags while the terms below j have been passed
+pub record Flagged (sort decided : ℕ → ℕ) (s : ℕ) (flags : List ℕ) (j : ℕ) : Type 0 where
+  pub length : length flags ≡ 16
+  pub all : (k : ℕ) → k < j → sort k ≡ s → decided k < 16 → at flags (decided k) ≡ 1
+
+module _ (sort decided : ℕ → ℕ) (s : ℕ) (flags : List ℕ) (j : ℕ) (f : Flagged sort decided s flags j) where
+  pub flagged-more : (v : ℕ) → v < 16 → v ≡ decided j → Flagged sort decided s (set flags v 1) (j + 1)
+  flagged-more v hv ev =
+      record {
+        length = length-set flags v 1 ∙ f .length;
+        all = below-more (λ (k : ℕ). sort k ≡ s → decided k < 16 → at (set flags v 1) (decided k) ≡ 1) j
+            (λ k h e d. kept k (f .all k h e d))
+            (λ e d. rw (← ev) (at-set-same flags v 1 (omega (arith, f .length))));
+      }
+    where
+      kept : (k : ℕ) → at flags (decided k) ≡ 1 → at (set flags v 1) (decided k) ≡ 1
+      kept k e = elim (at-set flags v 1 (decided k)) [ inl x ↦ x ∙ e | inr x ↦ x .1 ]
+
+  pub flagged-high : (v : ℕ) → 16 ≤ v → v ≡ decided j → Flagged sort decided s flags (j + 1)
+  flagged-high v hv ev = record { length = f .length; all = below-more _ j (f .all) (λ e d. omega arith) }
+
+  pub flagged-other : (sort j ≡ s → ⊥) → Flagged sort decided s flags (j + 1)
+  flagged-other n = record { length = f .length; all = below-more _ j (f .all) (λ e d. absurd (n e)) }
 
 -- a code that is not flagged is not in use
 pub unflagged : (P : Problem) (q : ℕ → ℕ) (s v : ℕ) (flags : List ℕ) → Used P q s flags → v < 16 → (at flags v ≡ 1 → ⊥) → Unused P q s v
@@ -40,14 +55,24 @@ pub only-first : (word one v : ℕ) → v ≤ 16 → 16 ≤ one → ((u : ℕ) �
 only-first word one v le big all = below-more _ v (λ u h n. let e = all u h n in omega arith) (λ n. refl)
 
 -- ---- reading codes off
-module _ (P : Problem) (q : ℕ → ℕ) (words codes : List ℕ) (n v : ℕ) (len : length codes ≡ 256) (h : n < 256) (r : Read P q words codes n) where
+pub record Reading (P : Problem) (q : ℕ → ℕ) (words codes : List ℕ) (n : ℕ) : Type 0 where
+  pub length : length codes ≡ 256
+  pub read : Read P q words codes n
+
+module _ (P : Problem) (q : ℕ → ℕ) (words codes : List ℕ) (n v : ℕ) (h : n < 256) (reading : Reading P q words codes n) where
+  abbrev r : Read P q words codes n
+  r = reading .read
+
+  len : length codes ≡ 256
+  len = reading .length
+
   read-step : ((q n ≡ undecided → ⊥) → v ≡ q n) → (q n ≡ undecided → (u : ℕ) → u < 16 → (Struck (at words n) u → ⊥) → u ≡ v) → Read P q words (set codes n v) (n + 1)
   read-step d o =
       record {
-        decided = below-more _ n (λ i l u. at-set-other codes n v i (λ e. below-not i l e) ∙ r .decided i l u) (λ u. at-set-same codes n v (omega arith) ∙ d u);
+        decided = below-more _ n (λ i l u. at-set-other codes n v i (λ e. below-not i l e) ∙ r .decided i l u) (λ u. at-set-same codes n v (omega (arith, len)) ∙ d u);
         only = below-more _ n
             (λ i l u w hw k. r .only i l u w hw k ∙ sym (at-set-other codes n v i (λ e. below-not i l e)))
-            (λ u w hw k. o u w hw k ∙ sym (at-set-same codes n v (omega arith)));
+            (λ u w hw k. o u w hw k ∙ sym (at-set-same codes n v (omega (arith, len))));
         rest = λ i l. at-set-other codes n v i (λ e. above-not i l e) ∙ r .rest i (omega arith);
       }
     where
@@ -56,13 +81,13 @@ module _ (P : Problem) (q : ℕ → ℕ) (words codes : List ℕ) (n v : ℕ) (l
       above-not : (i : ℕ) → n + 1 ≤ i → i ≡ n → ⊥
       above-not i l e = omega arith
 
-  pub read-decided : (q n ≡ undecided → ⊥) → v ≡ q n → Read P q words (set codes n v) (n + 1)
-  read-decided d e = read-step (λ u. e) (λ u. absurd (d u))
+  pub read-decided : (q n ≡ undecided → ⊥) → v ≡ q n → Reading P q words (set codes n v) (n + 1)
+  read-decided d e = record { length = length-set codes n v ∙ len; read = read-step (λ u. e) (λ u. absurd (d u)) }
 
-  pub read-only : q n ≡ undecided → ((u : ℕ) → u < 16 → (Struck (at words n) u → ⊥) → u ≡ v) → Read P q words (set codes n v) (n + 1)
-  read-only u o = read-step (λ d. absurd (d u)) (λ e. o)
+  pub read-only : q n ≡ undecided → ((u : ℕ) → u < 16 → (Struck (at words n) u → ⊥) → u ≡ v) → Reading P q words (set codes n v) (n + 1)
+  read-only u o = record { length = length-set codes n v ∙ len; read = read-step (λ d. absurd (d u)) (λ e. o) }
 
-module _ (P : Problem) (sizes q : ℕ → ℕ) (w : WellSorted P) (small : (s : ℕ) → s < P .sorts → sizes s ≤ 16) (isDead : Bool) (words : List ℕ) (k : Propagated P sizes q isDead words) where
+module _ (P : Problem) (sizes q : ℕ → ℕ) (w : WellSorted P) (small : (s : ℕ) → s < P .sorts → sizes s ≤ 16) (words : List ℕ) (k : Knows P sizes q words) where
   below-16 : (c : ℕ → ℕ) → Consistent P sizes c → (i : ℕ) → i < P .terms → c i < 16
   below-16 c con i h = let a = con .range i h in let b = small (P .sort i) (w .sort i h) in omega arith
 
@@ -70,7 +95,7 @@ module _ (P : Problem) (sizes q : ℕ → ℕ) (w : WellSorted P) (small : (s : 
   pub read-unique : (codes : List ℕ) → Read P q words codes (P .terms) → (c : ℕ → ℕ) → Consistent P sizes c → Extends P q c → (i : ℕ) → i < P .terms → c i ≡ at codes i
   read-unique codes r c con ext i h =
       elim (ℕ-discrete (q i) undecided) [
-        | yes u ↦ r .only i h u (c i) (below-16 c con i h) (k .struck c con ext i h)
+        | yes u ↦ r .only i h u (c i) (below-16 c con i h) (k c con ext i h)
         | no d ↦ ext i h d ∙ sym (r .decided i h d)
       ]
 
@@ -98,7 +123,7 @@ module _ (P : Problem) (sizes q : ℕ → ℕ) (w : WellSorted P) (small : (s : 
             record {
               consistent = con;
               extends = ext;
-              worth = record { below = con .range term there; kept = k .struck c con ext term there; used = o };
+              worth = record { below = con .range term there; kept = k c con ext term there; used = o };
               most = omega arith;
             }
         exchanged : fresh < c term → (at flags (c term) ≡ 1 → ⊥) → Covers P sizes q term (sizes (P .sort term)) (at words term) fresh flags c (swapped P (P .sort term) fresh (c term) c)
@@ -113,7 +138,7 @@ module _ (P : Problem) (sizes q : ℕ → ℕ) (w : WellSorted P) (small : (s : 
             record {
               consistent = con2;
               extends = ext2;
-              worth = record { below = (omega arith); kept = k .struck d con2 ext2 term there; used = inl (omega arith) };
+              worth = record { below = (omega arith); kept = k d con2 ext2 term there; used = inl (omega arith) };
               most = (omega arith);
             }
 
@@ -128,3 +153,79 @@ branches-dead P sizes l term size word fresh flags b dead c con ext =
     let d = m .0 in
     let k = m .1 in
     dead (d term) (k .worth .below) (k .worth) d (k .consistent) (decide-more P l term (d term) d (k .extends) refl)
+
+-- what the tests of a code say of its worth
+pub worth-yes : (size word fresh v : ℕ) (flags : List ℕ) → v < size → (Struck word v → ⊥) → v ≤ fresh → Decides true (Worth size word fresh flags v)
+worth-yes size word fresh v flags h n l = record { yes = λ e. record { below = h; kept = n; used = inl l }; no = λ e. absurd (false≢true (sym e)) }
+
+pub worth-used : (size word fresh v : ℕ) (flags : List ℕ) → v < size → (Struck word v → ⊥) → fresh < v → Decides (eqb (at flags v) 1) (Worth size word fresh flags v)
+worth-used size word fresh v flags h n l =
+    record {
+      yes = λ e. record { below = h; kept = n; used = inr (eqb-true (at flags v) 1 e) };
+      no = λ e w. elim (w .used) [ inl x ↦ omega arith | inr x ↦ eqb-false (at flags v) 1 e x ];
+    }
+
+-- nothing has been read off yet
+pub read-none : (P : Problem) (q : ℕ → ℕ) (words : List ℕ) → Reading P q words (replicate 256 0) 0
+read-none P q words = record { length = refl; read = record { decided = λ i h. omega arith; only = λ i h. omega arith; rest = λ i h. at-zeros 256 i } }
+
+-- the node that branches on a term
+pub branch-node : (P : Problem) (sizes q codes : ℕ → ℕ) (term size fresh : ℕ) (words flags : List ℕ) → WellSorted P → ((s : ℕ) → s < P .sorts → sizes s ≤ 16) → Knows P sizes q words
+    → term < P .terms → q term ≡ undecided → size ≡ sizes (P .sort term) → Fresh flags size fresh → Used P q (P .sort term) flags → Node P sizes q false false codes term size (at words term) fresh flags
+branch-node P sizes q codes term size fresh words flags w small k there pending e f u =
+    record {
+      dead = λ x. absurd (false≢true x);
+      consistent = λ x. absurd (false≢true x);
+      extends = λ x. absurd (false≢true x);
+      branches = λ x y.
+          subst (λ (n : ℕ). Branches P sizes q term n (at words term) fresh flags) (sym e)
+          (branches P sizes q w small words k term fresh flags there (subst (λ (n : ℕ). Fresh flags n fresh) e f) u pending);
+    }
+
+-- a node that is dead, and one that is found
+module _ (P : Problem) (sizes q codes : ℕ → ℕ) (term size word fresh : ℕ) (flags : List ℕ) where
+  pub dead-node : (isDead found : Bool) → isDead ≡ true → found ≡ false → Dead P sizes q → Node P sizes q isDead found codes term size word fresh flags
+  dead-node isDead found d f dead =
+      record {
+        dead = λ x. dead;
+        consistent = λ x. absurd (false≢true (sym f ∙ x));
+        extends = λ x. absurd (false≢true (sym f ∙ x));
+        branches = λ x y. absurd (false≢true (sym x ∙ d));
+      }
+
+  pub found-node : (isDead found : Bool) → isDead ≡ false → found ≡ true → Consistent P sizes codes → Extends P q codes → Node P sizes q isDead found codes term size word fresh flags
+  found-node isDead found d f con ext =
+      record {
+        dead = λ x. absurd (false≢true (sym d ∙ x));
+        consistent = λ x. con;
+        extends = λ x. ext;
+        branches = λ x y. absurd (false≢true (sym y ∙ f));
+      }
+
+-- the answers of the search
+module _ (P : Problem) (sizes q c : ℕ → ℕ) where
+  pub solved-none : Dead P sizes q → Solved P sizes q false c
+  solved-none dead = record { consistent = λ e. absurd (false≢true e); extends = λ e. absurd (false≢true e); none = λ e. dead }
+
+  pub solved-found : Consistent P sizes c → Extends P q c → Solved P sizes q true c
+  solved-found con ext = record { consistent = λ e. con; extends = λ e. ext; none = λ e. absurd (false≢true (sym e)) }
+
+-- what is found with one more decided code is found
+pub solved-less : (P : Problem) (sizes c : ℕ → ℕ) (l m : List ℕ) (term v : ℕ) (found : Bool) → at l term ≡ undecided → m ≡ set l term v → found ≡ true → Solved P sizes (at m) found c → Solved P sizes (at l) found c
+solved-less P sizes c l m term v found u e f s =
+    record {
+      consistent = s .consistent;
+      extends = λ x. decide-less P l term v c u (subst (λ (k : List ℕ). Extends P (at k) c) e (s .extends x));
+      none = λ x. absurd (false≢true (sym x ∙ f));
+    }
+
+-- the codes below v that are worth trying are dead
+abbrev pub Tried : Problem → (ℕ → ℕ) → List ℕ → ℕ → ℕ → ℕ → ℕ → List ℕ → ℕ → Type 0
+Tried P sizes l term size word fresh flags v = (u : ℕ) → u < v → Worth size word fresh flags u → Dead P sizes (at (set l term u))
+
+module _ (P : Problem) (sizes : ℕ → ℕ) (l : List ℕ) (term size word fresh : ℕ) (flags : List ℕ) (v : ℕ) (t : Tried P sizes l term size word fresh flags v) where
+  pub tried-dead : (m : List ℕ) → m ≡ set l term v → Dead P sizes (at m) → Tried P sizes l term size word fresh flags (v + 1)
+  tried-dead m e d = below-more _ v t (λ w. subst (λ (k : List ℕ). Dead P sizes (at k)) e d)
+
+  pub tried-not : (Worth size word fresh flags v → ⊥) → Tried P sizes l term size word fresh flags (v + 1)
+  tried-not n = below-more _ v t (λ w. absurd (n w))

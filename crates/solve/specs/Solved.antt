@@ -14,6 +14,10 @@ pub record Solved (P : Problem) (size q : ℕ → ℕ) (found : Bool) (c : ℕ �
   pub extends : found ≡ true → Extends P q c
   pub none : found ≡ false → Dead P size q
 
+-- what propagation knows of every consistent extension: no term has a code that is struck out in its word
+abbrev pub Knows : Problem → (ℕ → ℕ) → (ℕ → ℕ) → List ℕ → Type 0
+Knows P size q words = (c : ℕ → ℕ) → Consistent P size c → Extends P q c → (i : ℕ) → i < P .terms → Struck (at words i) (c i) → ⊥
+
 -- the flags of the codes in use: every code below 16 that a decided term of sort s has
 abbrev pub Used : Problem → (ℕ → ℕ) → ℕ → List ℕ → Type 0
 Used P q s flags = (j : ℕ) → j < P .terms → P .sort j ≡ s → q j < 16 → at flags (q j) ≡ 1

@@ -21,7 +21,7 @@ array-read-if1 : tie.Need-array-read-if1 Inv-loop μ-loop
 array-read-if1 c = search needs
 
 returns : tie.Need-returns Inv-loop μ-loop
-returns c = ?
+returns c = record { most = (omega arith); before = c .before .before .loop .inv .1; free = λ h. c .if1 .taken }
 
 add-v : tie.Need-add-v Inv-loop μ-loop
 add-v c = search needs
@@ -30,10 +30,10 @@ loop-less : tie.Need-loop-less Inv-loop μ-loop
 loop-less c = search needs
 
 loop-again : tie.Need-loop-again Inv-loop μ-loop
-loop-again c = ?
+loop-again c = (omega arith, below-more _ _ (c .before .before .loop .inv .1) (c .if1 .left))
 
 returns-2 : tie.Need-returns-2 Inv-loop μ-loop
-returns-2 c = ?
+returns-2 c = record { most = (omega arith); before = c .before .loop .inv .1; free = λ h e. let l = c .loop-test .left in omega arith }
 
 pub fresh-spec : {M : Type 1} → statement M
 fresh-spec =
