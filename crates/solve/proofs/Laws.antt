@@ -16,7 +16,7 @@ use Rattle.logic.proofs.Consistent.{Unused, equal-codes, swapped, swapped-consi
 use Rattle.logic.proofs.Decided.{at-set, at-set-same, at-set-other, at-zeros, decide-more, decide-less}
 use Rattle.codes.specs.Tested.{Decides, Padded}
 use Rattle.propagate.specs.Knowledge.{Struck}
-use Rattle.solve.specs.Solved.{Solved, Knows, Used, Fresh, Worth, Covers, Branches, Read, Node}
+use Rattle.solve.specs.Solved.{Solved, Knows, Used, Fresh, Worth, Covers, Branches, Read, Planned, Node}
 
 -- ---- flags of the codes in use
 -- the flags while the terms below j have been passed
@@ -169,17 +169,29 @@ worth-used size word fresh v flags h n l =
 pub read-none : (P : Problem) (q : ℕ → ℕ) (words : List ℕ) → Reading P q words (replicate 256 0) 0
 read-none P q words = record { length = refl; read = record { decided = λ i h. omega arith; only = λ i h. omega arith; rest = λ i h. at-zeros 256 i } }
 
--- the node that branches on a term
-pub branch-node : (P : Problem) (sizes q codes : ℕ → ℕ) (term size fresh : ℕ) (words flags : List ℕ) → WellSorted P → ((s : ℕ) → s < P .sorts → sizes s ≤ 16) → Knows P sizes q words
-    → term < P .terms → q term ≡ undecided → size ≡ sizes (P .sort term) → Fresh flags size fresh → Used P q (P .sort term) flags → Node P sizes q false false codes term size (at words term) fresh flags
-branch-node P sizes q codes term size fresh words flags w small k there pending e f u =
+-- the plan for a term
+pub branch-planned : (P : Problem) (sizes q : ℕ → ℕ) (term size fresh : ℕ) (words flags : List ℕ) → WellSorted P → ((s : ℕ) → s < P .sorts → sizes s ≤ 16) → Knows P sizes q words
+    → term < P .terms → q term ≡ undecided → size ≡ sizes (P .sort term) → Fresh flags size fresh → Used P q (P .sort term) flags → Planned P sizes q false term size (at words term) fresh flags
+branch-planned P sizes q term size fresh words flags w small k there pending e f u =
     record {
       dead = λ x. absurd (false≢true x);
-      consistent = λ x. absurd (false≢true x);
-      extends = λ x. absurd (false≢true x);
-      branches = λ x y.
+      branches = λ x.
           subst (λ (n : ℕ). Branches P sizes q term n (at words term) fresh flags) (sym e)
           (branches P sizes q w small words k term fresh flags there (subst (λ (n : ℕ). Fresh flags n fresh) e f) u pending);
+    }
+
+pub dead-planned : (P : Problem) (sizes q : ℕ → ℕ) (isDead : Bool) (term size word fresh : ℕ) (flags : List ℕ) → isDead ≡ true → Dead P sizes q → Planned P sizes q isDead term size word fresh flags
+dead-planned P sizes q isDead term size word fresh flags e d = record { dead = λ x. d; branches = λ x. absurd (false≢true (sym x ∙ e)) }
+
+-- the node of a plan
+pub planned-node : (P : Problem) (sizes q codes : ℕ → ℕ) (isDead found : Bool) (term term′ size word fresh : ℕ) (flags : List ℕ) → isDead ≡ false → found ≡ false → term ≡ term′
+    → Planned P sizes q isDead term′ size word fresh flags → Node P sizes q isDead found codes term size word fresh flags
+planned-node P sizes q codes isDead found term term′ size word fresh flags d f e p =
+    record {
+      dead = λ x. absurd (false≢true (sym d ∙ x));
+      consistent = λ x. absurd (false≢true (sym f ∙ x));
+      extends = λ x. absurd (false≢true (sym f ∙ x));
+      branches = λ x y. subst (λ (t : ℕ). Branches P sizes q t size word fresh flags) (sym e) (p .branches x);
     }
 
 -- a node that is dead, and one that is found

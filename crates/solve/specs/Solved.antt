@@ -58,6 +58,11 @@ pub record Settles (P : Problem) (q : ℕ → ℕ) (words : List ℕ) (term : �
   pub pending : term < P .terms → q term ≡ undecided
   pub read : P .terms ≤ term → Read P q words codes (P .terms)
 
+-- the codes of a term to try: the decisions are dead, or these codes cover all
+pub record Planned (P : Problem) (sizes q : ℕ → ℕ) (isDead : Bool) (term size word fresh : ℕ) (flags : List ℕ) : Type 0 where
+  pub dead : isDead ≡ true → Dead P sizes q
+  pub branches : isDead ≡ false → Branches P sizes q term size word fresh flags
+
 -- one node of the search: dead, or found, or a term to branch on
 pub record Node (P : Problem) (sizes q : ℕ → ℕ) (isDead found : Bool) (c : ℕ → ℕ) (term size word fresh : ℕ) (flags : List ℕ) : Type 0 where
   pub dead : isDead ≡ true → Dead P sizes q

@@ -1,6 +1,8 @@
 // The search at given sizes: consistent codes that keep to some decided ones, or that there are none.
+use codes::wide;
 use propagate::Outcome;
 use sheet::Parsed;
+ghost use mathlib.Core.Bool.{false};
 ghost use mathlib.Core.Path.{_≡_};
 ghost use Prim.Native.Nat.{ℕ, _<_, _≤_};
 ghost use lib.ListN.{set};
@@ -10,7 +12,7 @@ ghost use Rattle.sheet.specs.Packed.{view};
 ghost use Rattle.codes.specs.Searchable.{Searchable, Small};
 ghost use Rattle.codes.specs.Tested.{Decides};
 ghost use Rattle.propagate.specs.Knowledge.{Struck};
-ghost use Rattle.solve.specs.Solved.{Solved, Knows, Used, Fresh, Worth, Settles, Node};
+ghost use Rattle.solve.specs.Solved.{Solved, Knows, Used, Fresh, Worth, Settles, Planned, Node};
 
 // The answer of a search, and what it learnt: how often propagation failed in each group.
 pub struct Solution {
@@ -21,29 +23,22 @@ pub struct Solution {
 
 // One node of the search. Where it is neither dead nor found, a term to branch on, with the size of its sort, the codes struck out,
 // the codes in use, and the first that is not.
-struct Step {
-    dead: bool,
-    found: bool,
-    codes: [u8; 256],
-    term: usize,
-    size: usize,
-    word: u16,
-    fresh: usize,
-    used: [u8; 16],
-    weights: [u32; 128],
+pub struct Step {
+    pub dead: bool,
+    pub found: bool,
+    pub codes: [u8; 256],
+    pub term: usize,
+    pub size: usize,
+    pub word: u16,
+    pub fresh: usize,
+    pub used: [u8; 16],
+    pub weights: [u32; 128],
 }
 
 // A term that is not settled, or the codes of all terms.
 struct Settled {
     term: usize,
     codes: [u8; 256],
-}
-
-// A byte as an index.
-fn wide(x: u8) -> usize
-    ensures { λ r. ⌜ (r ≡ x) × (r < 256) ⌝ }
-{
-    x as usize
 }
 
 // Whether a code is struck out.
@@ -89,10 +84,13 @@ fn fresh(flags: [u8; 16], size: usize) -> usize
 }
 
 // Whether a code is worth trying.
-fn worth(size: usize, word: u16, fresh: usize, flags: [u8; 16], v: usize) -> bool
-    requires { ⌜ (v < size) × (size ≤ 16) ⌝ }
+pub fn worth(size: usize, word: u16, fresh: usize, flags: [u8; 16], v: usize) -> bool
+    requires { ⌜ size ≤ 16 ⌝ }
     ensures { λ r. ⌜ Decides r (Worth size word fresh flags v) ⌝ }
 {
+    if size <= v {
+        return false;
+    }
     if struck(word, v) {
         return false;
     }
@@ -144,7 +142,7 @@ fn settle(p: Parsed, decided: [u8; 256], words: [u16; 128]) -> Settled
 }
 
 // Decided codes with one more.
-fn decide(decided: [u8; 256], term: usize, v: usize) -> [u8; 256]
+pub fn decide(decided: [u8; 256], term: usize, v: usize) -> [u8; 256]
     requires { ⌜ (term < 256) × (v < 256) ⌝ }
     ensures { λ r. ⌜ r ≡ set decided term v ⌝ }
 {
@@ -249,7 +247,8 @@ fn branch(p: Parsed, sizes: [u8; 8], decided: [u8; 256], words: [u16; 128], term
     requires { ⌜ Small p (at sizes) ⌝ }
     requires { ⌜ Knows (view p) (at sizes) (at decided) words ⌝ }
     requires { ⌜ (term < p .terms) × (at decided term ≡ undecided) ⌝ }
-    ensures { λ r. ⌜ Node (view p) (at sizes) (at decided) (r .dead) (r .found) (at (r .codes)) (r .term) (r .size) (r .word) (r .fresh) (r .used) ⌝ }
+    ensures { λ r. ⌜ Planned (view p) (at sizes) (at decided) (r .dead) term (r .size) (r .word) (r .fresh) (r .used) ⌝ }
+    ensures { λ r. ⌜ (r .dead ≡ false) × (r .found ≡ false) × (r .term ≡ term) ⌝ }
 {
     let sort = p.sort[term];
     let s = wide(sort);
@@ -284,6 +283,21 @@ fn leaf(dead: bool, found: bool, codes: [u8; 256], weights: [u32; 128]) -> Step
         used: [0u8; 16],
         weights,
     }
+}
+
+// The codes of a given term that are worth trying.
+pub fn plan(p: Parsed, sizes: [u8; 8], decided: [u8; 256], term: usize, weights: [u32; 128]) -> Step
+    requires { ⌜ Searchable p ⌝ }
+    requires { ⌜ Small p (at sizes) ⌝ }
+    requires { ⌜ (term < p .terms) × (at decided term ≡ undecided) ⌝ }
+    ensures { λ r. ⌜ Planned (view p) (at sizes) (at decided) (r .dead) term (r .size) (r .word) (r .fresh) (r .used) ⌝ }
+{
+    let o = propagate::propagate(p, sizes, decided);
+    if o.dead {
+        return leaf(true, false, decided, weights);
+    }
+    let words = o.struck;
+    branch(p, sizes, decided, words, term, weights)
 }
 
 // One node: propagate; else a term to branch on; where all are settled, the test of their codes.

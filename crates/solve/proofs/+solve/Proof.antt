@@ -105,7 +105,7 @@ solve-worth-requires : (t : ℕ) → solve-lts.Need-worth-requires (
 solve-worth-requires t c κs =
     let g = c .before .before .before in
     let b = g .before .before .before .before .node .ensures .branches (g .before .if1 .left) (g .if2 .left) in
-    (c .loop-test .taken, b .small)
+    b .small
 
 solve-decide-requires : (t : ℕ) → solve-lts.Need-decide-requires (
   node-reads.Asked,

@@ -1,9 +1,9 @@
 -- `solve::branch` meets its contract.
 use Prim.Native.Nat.{ℕ, _≤_, _<_}
-use mathlib.Core.Path.{_≡_, ap, _∙_, subst}
+use mathlib.Core.Path.{_≡_, refl, ap, _∙_, subst}
 use native.Mathlib.Omega.{arith}
 use Rattle.logic.specs.Structure.{at}
-use Rattle.solve.proofs.Laws.{branch-node}
+use Rattle.solve.proofs.Laws.{branch-planned}
 use borrow.Author.Needs.{needs}
 use Rattle.solve.proofs.branch.Statement.{statement}
 use Rattle.solve.proofs.branch.Tie as tie
@@ -41,9 +41,10 @@ array-read-t25 c = search needs
 returns : tie.Need-returns
 returns c =
     let s = c .before .before .before .before .before in
-    branch-node _ _ _ _ _ _ _ (s .args .t4) _ (s .pre .0 .sorted) (s .pre .1 .0) (s .pre .1 .1 .0) (s .pre .1 .1 .1 .0) (s .pre .1 .1 .1 .1)
+    (branch-planned _ _ _ _ _ _ (s .args .t4) _ (s .pre .0 .sorted) (s .pre .1 .0) (s .pre .1 .1 .0) (s .pre .1 .1 .1 .0) (s .pre .1 .1 .1 .1)
     (c .before .before .wide2 .ensures .0 ∙ ap (at (s .args .t2)) (c .before .before .before .wide .ensures .0))
-    (c .fresh .ensures) (c .before .used .ensures)
+    (c .fresh .ensures) (c .before .used .ensures),
+    (refl, refl, refl))
 
 pub branch-spec : {M : Type 1} → statement M
 branch-spec =

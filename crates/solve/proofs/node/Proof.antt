@@ -1,5 +1,5 @@
 -- `solve::node` meets its contract: every way out is dead, found, or a branch.
-use Rattle.solve.proofs.Laws.{dead-node, found-node, read-dead, read-extends}
+use Rattle.solve.proofs.Laws.{dead-node, found-node, planned-node, read-dead, read-extends}
 use borrow.Author.Needs.{needs}
 use Rattle.solve.proofs.node.Statement.{statement}
 use Rattle.solve.proofs.node.Tie as tie
@@ -30,7 +30,9 @@ branch-requires c κs =
     (s .pre .0, (s .pre .1, (c .before .before .before .before .before .before .propagate .ensures .struck, (c .before .if2 .taken, c .if3 .taken))))
 
 returns-2 : tie.Need-returns-2
-returns-2 c = search needs
+returns-2 c =
+    let b = c .branch .ensures in
+    planned-node _ _ _ _ _ _ _ _ _ _ _ _ (b .1 .0) (b .1 .1) (b .1 .2) (b .0)
 
 settle-requires : tie.Need-settle-requires
 settle-requires c κs = search needs
@@ -42,7 +44,9 @@ branch-requires-2 c κs =
     (s .pre .0, (s .pre .1, (m .before .before .before .before .before .before .propagate .ensures .struck, (c .if4 .taken, m .settle .ensures .pending (c .if4 .taken)))))
 
 returns-3 : tie.Need-returns-3
-returns-3 c = search needs
+returns-3 c =
+    let b = c .branch2 .ensures in
+    planned-node _ _ _ _ _ _ _ _ _ _ _ _ (b .1 .0) (b .1 .1) (b .1 .2) (b .0)
 
 consistent-requires : tie.Need-consistent-requires
 consistent-requires c κs =
