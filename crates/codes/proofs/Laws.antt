@@ -46,7 +46,6 @@ row-length n own (x ∷ xs) [] s i h = absurd s
 row-length n own (x ∷ xs) (u ∷ us) s zero h = s .0 .1 .0 .1
 row-length n own (x ∷ xs) (u ∷ us) s (suc i) h = row-length n own xs us (s .1) i (omega arith)
 
-
 -- The table t while the terms of symbol f below n have been entered: each one's code stands in its cell, and a cell that is not free
 -- holds the code of one of them.
 pub record Filled (P : Problem) (c : ℕ → ℕ) (f n : ℕ) (t : List (List ℕ)) : Type 0 where
@@ -99,10 +98,11 @@ module _ (P : Problem) (c : ℕ → ℕ) (f : ℕ) where
             let old = k .entered i h e in
             put .elsewhere (c (P .arg0 i)) (c (P .arg1 i))
             (λ a b.
-              let x : cell t (c (P .arg0 i)) (c (P .arg1 i)) ≡ 255 = rw (a, b) free in
-              let y = small i in
-              omega arith)
+            let x : cell t (c (P .arg0 i)) (c (P .arg1 i)) ≡ 255 = rw (a, b) free in
+            let y = small i in
+            omega arith)
             ∙ old
+
         kept : (row col : ℕ) → row < 16 → col < 16 → (row ≡ c (P .arg0 n) → col ≡ c (P .arg1 n) → ⊥)
             → (cell u row col ≡ 255) ⊎ ((i : ℕ) × (i < n + 1) × (P .symbol i ≡ f) × (c (P .arg0 i) ≡ row) × (c (P .arg1 i) ≡ col) × (c i ≡ cell u row col))
         kept row col hr hc ne =
@@ -111,6 +111,7 @@ module _ (P : Problem) (c : ℕ → ℕ) (f : ℕ) where
               | inl x ↦ inl (e ∙ x)
               | inr w ↦ inr (w .0, (omega arith), w .2, w .3, w .4, w .5 ∙ sym e)
             ]
+
         place : (row col : ℕ) → row < 16 → col < 16 → Dec (row ≡ c (P .arg0 n)) → Dec (col ≡ c (P .arg1 n))
             → (cell u row col ≡ 255) ⊎ ((i : ℕ) × (i < n + 1) × (P .symbol i ≡ f) × (c (P .arg0 i) ≡ row) × (c (P .arg1 i) ≡ col) × (c i ≡ cell u row col))
         place row col hr hc (yes a) (yes b) = inr (n, (omega arith), s, sym a, sym b, (rw (a, b) (sym (put .here))))

@@ -78,7 +78,7 @@ fn cell_of(t: [[u8; 16]; 16], row: usize, col: usize) -> u8
 }
 
 // The table with one cell set.
-fn with_cell(t: [[u8; 16]; 16], row: usize, col: usize, code: u8) -> [[u8; 16]; 16]
+pub fn with_cell(t: [[u8; 16]; 16], row: usize, col: usize, code: u8) -> [[u8; 16]; 16]
     requires { ⌜ (row < 16) × (col < 16) ⌝ }
     ensures { λ r. ⌜ Put t r row col code ⌝ }
 {

@@ -36,9 +36,10 @@ functional-requires : tie.Need-functional-requires Inv-loop μ-loop
 functional-requires c κs =
     let e = c .before .before .before in
     let m = e .before .before in
-    let s = m .before .before in
-    (s .pre .0,
-    small-codes (view (s .args .p)) (at (s .args .sizes)) (at (s .args .codes)) (s .pre .0 .sorted) (s .pre .1 .0) (s .pre .1 .1) (m .before .in-range .ensures .yes (not-false _ (m .if1 .left))))
+    let s = m .before .before in (
+      s .pre .0,
+      small-codes (view (s .args .p)) (at (s .args .sizes)) (at (s .args .codes)) (s .pre .0 .sorted) (s .pre .1 .0) (s .pre .1 .1) (m .before .in-range .ensures .yes (not-false _ (m .if1 .left))),
+    )
 
 returns-3 : tie.Need-returns-3 Inv-loop μ-loop
 returns-3 c = answer-no λ k. c .before .functional .ensures .no (not-true _ (c .if4 .taken)) (part-functional _ _ _ _ k)
@@ -50,9 +51,10 @@ loop-less : tie.Need-loop-less Inv-loop μ-loop
 loop-less c = search needs
 
 loop-again : tie.Need-loop-again Inv-loop μ-loop
-loop-again c =
-    (omega arith,
-    below-more _ _ (c .before .before .before .before .loop .inv .1) (c .before .functional .ensures .yes (not-false _ (c .if4 .left))))
+loop-again c = (
+  omega arith,
+  below-more _ _ (c .before .before .before .before .loop .inv .1) (c .before .functional .ensures .yes (not-false _ (c .if4 .left))),
+)
 
 returns-4 : tie.Need-returns-4 Inv-loop μ-loop
 returns-4 c =

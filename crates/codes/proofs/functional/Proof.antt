@@ -71,22 +71,23 @@ loop-again c =
     let m = c .before .before .before .before in
     let k = m .loop .inv .1 in
     let small = m .before .pre .1 in
-    let sym0 = c .before .wide .ensures .0 in
-    (omega arith,
-    elim (c .if1 .came) [
-      | inl w ↦
-          subst (λ (u : List (List ℕ)). Filled (view (m .before .args .t1)) (at (m .before .args .t2)) (m .before .args .symbol) (m .loop .i + 1) u) (sym (w .8))
-          (step-more _ _ _ _ _ _ _ _ k (w .2 .ensures) (w .4 .ensures) (w .5 .ensures) _ small (sym sym0 ∙ w .0 .taken) (w .6 .taken) (w .7 .ensures))
-      | inr v ↦
-          elim v [
-            | inl w ↦
-                subst (λ (u : List (List ℕ)). Filled (view (m .before .args .t1)) (at (m .before .args .t2)) (m .before .args .symbol) (m .loop .i + 1) u) (sym (w .8))
-                (step-again _ _ _ _ _ _ _ _ k (w .2 .ensures) (w .4 .ensures) (w .5 .ensures) (w .7 .left))
-            | inr w ↦
-                subst (λ (u : List (List ℕ)). Filled (view (m .before .args .t1)) (at (m .before .args .t2)) (m .before .args .symbol) (m .loop .i + 1) u) (sym (w .1))
-                (filled-other _ _ _ _ _ k (λ e. w .0 .left (sym0 ∙ e)))
-          ]
-    ])
+    let sym0 = c .before .wide .ensures .0 in (
+      omega arith,
+      elim (c .if1 .came) [
+        | inl w ↦
+            subst (λ (u : List (List ℕ)). Filled (view (m .before .args .t1)) (at (m .before .args .t2)) (m .before .args .symbol) (m .loop .i + 1) u) (sym (w .8))
+            (step-more _ _ _ _ _ _ _ _ k (w .2 .ensures) (w .4 .ensures) (w .5 .ensures) _ small (sym sym0 ∙ w .0 .taken) (w .6 .taken) (w .7 .ensures))
+        | inr v ↦
+            elim v [
+              | inl w ↦
+                  subst (λ (u : List (List ℕ)). Filled (view (m .before .args .t1)) (at (m .before .args .t2)) (m .before .args .symbol) (m .loop .i + 1) u) (sym (w .8))
+                  (step-again _ _ _ _ _ _ _ _ k (w .2 .ensures) (w .4 .ensures) (w .5 .ensures) (w .7 .left))
+              | inr w ↦
+                  subst (λ (u : List (List ℕ)). Filled (view (m .before .args .t1)) (at (m .before .args .t2)) (m .before .args .symbol) (m .loop .i + 1) u) (sym (w .1))
+                  (filled-other _ _ _ _ _ k (λ e. w .0 .left (sym0 ∙ e)))
+            ]
+      ],
+    )
 
 returns-2 : tie.Need-returns-2 Inv-loop μ-loop
 returns-2 c = answer-yes (filled-all _ _ _ _ _ (c .before .loop .inv .1) (c .loop-test .left))

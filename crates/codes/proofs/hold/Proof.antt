@@ -59,10 +59,11 @@ loop-less c = search needs
 
 loop-again : tie.Need-loop-again Inv-loop μ-loop
 loop-again c =
-    let m = c .before in
-    (omega arith,
-    below-more _ _ (c .before .before .before .before .before .before .before .before .loop .inv .1)
-    (rw (← m .before .before .wide2 .ensures .0, ← m .before .before .before .before .wide .ensures .0) (m .meets .ensures .yes (not-false _ (c .if1 .left)))))
+    let m = c .before in (
+      omega arith,
+      below-more _ _ (c .before .before .before .before .before .before .before .before .loop .inv .1)
+          (rw (← m .before .before .wide2 .ensures .0, ← m .before .before .before .before .wide .ensures .0) (m .meets .ensures .yes (not-false _ (c .if1 .left)))),
+    )
 
 returns-2 : tie.Need-returns-2 Inv-loop μ-loop
 returns-2 c = answer-yes λ k h. let l = c .loop-test .left in c .before .loop .inv .1 k (omega arith)

@@ -46,10 +46,11 @@ loop-less : tie.Need-loop-less Inv-loop μ-loop
 loop-less c = search needs
 
 loop-again : tie.Need-loop-again Inv-loop μ-loop
-loop-again c =
-    (omega arith,
-    below-more _ _ (c .before .before .before .before .loop .inv .1)
-    (rw (← c .before .wide .ensures .0) (c .if1 .left)))
+loop-again c = (
+  omega arith,
+  below-more _ _ (c .before .before .before .before .loop .inv .1)
+      (rw (← c .before .wide .ensures .0) (c .if1 .left)),
+)
 
 returns-2 : tie.Need-returns-2 Inv-loop μ-loop
 returns-2 c = answer-yes λ k h. let l = c .loop-test .left in c .before .loop .inv .1 k (omega arith)

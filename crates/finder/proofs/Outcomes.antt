@@ -1,0 +1,42 @@
+-- What becomes of a call, case by case: the equations of `outcome`.
+use Prim.Native.Nat.{ℕ, _≤_, _<_}
+use mathlib.Core.Path.{_≡_, ap, ap₂, _∙_}
+use mathlib.Core.Bool.{Bool, true, false, _||_, or-true}
+use mathlib.Core.Logic.{_⊎_, inl, inr}
+use mathlib.Core.List.{List}
+use mathlib.Core.Option.{Option}
+use lib.ListN.{length}
+use lib.Dec.{ltb}
+use borrow.Author.Tests.{le-ltb, lt-ltb}
+use Rattle.logic.specs.Sheet.{Sheet}
+use Rattle.sheet.specs.Layout.{Reading, accepted, refused, reading}
+use Rattle.tables.specs.Layout.{extent}
+use Rattle.finder.specs.Answer.{Entry, answer}
+use Rattle.finder.specs.Find.{Outcome, turnedDown, ceilings, short, answering, consider, outcome}
+
+abbrev branch : Sheet → Bool → Outcome
+branch sh b = elim b [ true ↦ turnedDown 10 0 | false ↦ answering sh (answer sh) ]
+
+-- causes 1 to 9
+pub outcome-refused : (s : List ℕ) (n i nc nt : ℕ) → reading s ≡ refused n i → outcome s nc nt ≡ turnedDown n i
+unfolding outcome
+outcome-refused s n i nc nt q = ap (λ (r : Reading). consider r nc nt) q
+
+-- cause 10
+pub outcome-short : (s : List ℕ) (sh : Sheet) (nc nt : ℕ) → reading s ≡ accepted sh → (nc < length (sh .terms)) ⊎ (nt < extent sh (ceilings sh)) → outcome s nc nt ≡ turnedDown 10 0
+unfolding outcome
+outcome-short s sh nc nt q l = ap (λ (r : Reading). consider r nc nt) q ∙ ap (branch sh) (step l)
+  where
+    step : (nc < length (sh .terms)) ⊎ (nt < extent sh (ceilings sh)) → short sh nc nt ≡ true
+    step (inl h) = ap (λ (b : Bool). b || ltb nt (extent sh (ceilings sh))) (lt-ltb nc (length (sh .terms)) h)
+    step (inr h) =
+        ap (λ (b : Bool). ltb nc (length (sh .terms)) || b) (lt-ltb nt (extent sh (ceilings sh)) h)
+        ∙ or-true (ltb nc (length (sh .terms)))
+
+-- cause 11, or the answer
+pub outcome-long : (s : List ℕ) (sh : Sheet) (a : Option Entry) (nc nt : ℕ) → reading s ≡ accepted sh → length (sh .terms) ≤ nc → extent sh (ceilings sh) ≤ nt → answer sh ≡ a → outcome s nc nt ≡ answering sh a
+unfolding outcome
+outcome-long s sh a nc nt q h k e =
+    ap (λ (r : Reading). consider r nc nt) q
+    ∙ ap (branch sh) (ap₂ (λ (b d : Bool). b || d) (le-ltb nc (length (sh .terms)) h) (le-ltb nt (extent sh (ceilings sh)) k))
+    ∙ ap (answering sh) e

@@ -1,0 +1,5 @@
+pub mod Answer
+pub mod Demand
+pub mod Find
+pub mod Worked
+pub mod Fill

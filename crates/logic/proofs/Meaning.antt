@@ -1,0 +1,121 @@
+-- The codes of terms under a structure: a term's code is its symbol's table at the codes of its arguments, it lies in range, and codes
+-- with this property are the structure's own. With the first values of functions as lists.
+use Prim.Native.Nat.{ℕ, zero, suc, _+_, _<_}
+use mathlib.Core.Path.{_≡_, refl, ap, ap₂, sym, _∙_, subst}
+use mathlib.Core.List.{List, [], _∷_, _++_, map}
+use lib.ListN.{length, getD, length-append, List·getD-append}
+use lib.Seq.{getD-append-seam, ext-getD}
+use native.Mathlib.Decide.{decLt}
+use native.Mathlib.Omega.{arith}
+use Rattle.logic.specs.Sheet.{Sheet, Term, symbolAt, termAt, sortAt}
+use Rattle.logic.specs.WellFormed.{WellFormed, Each}
+use Rattle.logic.specs.Structure.{Structure, InSorts, Interprets, at, codesFrom, codes, code, sumTo}
+use Rattle.logic.specs.Order.{firsts}
+
+-- Lists of values of functions.
+pub map-each : (f g : ℕ → ℕ) (p : ℕ → Type 0) → ((a : ℕ) → p a → f a ≡ g a) → (l : List ℕ) → Each p l → map f l ≡ map g l
+map-each f g p h [] e = refl
+map-each f g p h (a ∷ l) e = ap₂ (λ (x : ℕ) (xs : List ℕ). x ∷ xs) (h a (e .0)) (map-each f g p h l (e .1))
+
+pub length-firsts : (n : ℕ) (f : ℕ → ℕ) → length (firsts n f) ≡ n
+length-firsts zero f = refl
+length-firsts (suc n) f = length-append (firsts n f) (f n ∷ []) ∙ omega (arith, length-firsts n f)
+
+pub at-firsts : (n : ℕ) (f : ℕ → ℕ) (i : ℕ) → i < n → at (firsts n f) i ≡ f i
+at-firsts zero f i h = absurd (omega arith)
+at-firsts (suc n) f i h =
+    let long : length (firsts n f) ≡ n = length-firsts n f in
+    elim (decLt i n) [
+      | yes l ↦ List·getD-append (firsts n f) (f n ∷ []) 0 i (omega arith) ∙ at-firsts n f i l
+      | no m ↦
+          let e : i ≡ length (firsts n f) = omega arith in
+          ap (at (firsts (suc n) f)) e ∙ getD-append-seam (firsts n f) (f n) [] 0 ∙ ap f (sym long ∙ sym e)
+    ]
+
+pub firsts-at : (n : ℕ) (l : List ℕ) → length l ≡ n → firsts n (at l) ≡ l
+firsts-at n l h = ext-getD 0 (firsts n (at l)) l (length-firsts n (at l) ∙ sym h) (λ i b. at-firsts n (at l) i (omega (arith, length-firsts n (at l))))
+
+pub firsts-same : (n : ℕ) (f g : ℕ → ℕ) → ((i : ℕ) → i < n → f i ≡ g i) → firsts n f ≡ firsts n g
+firsts-same zero f g h = refl
+firsts-same (suc n) f g h = ap₂ (λ (l : List ℕ) (x : ℕ). l ++ (x ∷ [])) (firsts-same n f g (λ i b. h i (omega arith))) (h n (omega arith))
+
+pub sumTo-same : (n : ℕ) (f g : ℕ → ℕ) → ((i : ℕ) → i < n → f i ≡ g i) → sumTo n f ≡ sumTo n g
+sumTo-same zero f g h = refl
+sumTo-same (suc n) f g h = ap₂ (λ (x y : ℕ). x + y) (sumTo-same n f g (λ i b. h i (omega arith))) (h n (omega arith))
+
+-- The codes of a structure.
+abbrev tableAt : Structure → List ℕ → Term → ℕ
+tableAt M cs t = M .table (t .symbol) (map (at cs) (t .args))
+
+length-codesFrom : (M : Structure) (cs : List ℕ) (ts : List Term) → length (codesFrom M cs ts) ≡ length cs + length ts
+length-codesFrom M cs [] = omega arith
+length-codesFrom M cs (t ∷ ts) =
+    length-codesFrom M (cs ++ (tableAt M cs t ∷ [])) ts ∙ omega (arith, length-append cs (tableAt M cs t ∷ []))
+
+pub length-codes : (M : Structure) (sh : Sheet) → length (codes M sh) ≡ length (sh .terms)
+unfolding codes
+length-codes M sh = length-codesFrom M [] (sh .terms) ∙ omega arith
+
+codesFrom-keeps : (M : Structure) (cs : List ℕ) (ts : List Term) (j : ℕ) → j < length cs → at (codesFrom M cs ts) j ≡ at cs j
+codesFrom-keeps M cs [] j h = refl
+codesFrom-keeps M cs (t ∷ ts) j h =
+    codesFrom-keeps M (cs ++ (tableAt M cs t ∷ [])) ts j (omega (arith, length-append cs (tableAt M cs t ∷ [])))
+    ∙ List·getD-append cs (tableAt M cs t ∷ []) 0 j h
+
+abbrev entryAt : List Term → ℕ → Term
+entryAt ts k = getD ts k (record { symbol = 0; args = [] })
+
+codesFrom-at : (M : Structure) (cs : List ℕ) (ts : List Term) (k n : ℕ) → k < length ts → n ≡ length cs + k → Each (λ a. a < n) (entryAt ts k .args) → at (codesFrom M cs ts) n ≡ tableAt M (codesFrom M cs ts) (entryAt ts k)
+codesFrom-at M cs [] k n h e l = absurd (omega arith)
+codesFrom-at M cs (t ∷ ts) zero n h e l =
+    let next : List ℕ = cs ++ (tableAt M cs t ∷ []) in
+    let all : List ℕ = codesFrom M next ts in
+    let m : n ≡ length cs = omega arith in
+    ap (at all) m
+    ∙ codesFrom-keeps M next ts (length cs) (omega (arith, length-append cs (tableAt M cs t ∷ [])))
+    ∙ getD-append-seam cs (tableAt M cs t) [] 0
+    ∙ ap (M .table (t .symbol)) (map-each (at cs) (at all) (λ a. a < n) (λ a b. sym (codesFrom-keeps M cs (t ∷ ts) a (omega arith))) (t .args) l)
+codesFrom-at M cs (t ∷ ts) (suc k) n h e l =
+    codesFrom-at M (cs ++ (tableAt M cs t ∷ [])) ts k n (omega arith) (omega (arith, length-append cs (tableAt M cs t ∷ []))) l
+
+-- a term's code is what its symbol's table holds at the codes of its arguments
+pub code-is : (M : Structure) (sh : Sheet) → WellFormed sh → (i : ℕ) → i < length (sh .terms) → code M sh i ≡ M .table (termAt sh i .symbol) (map (code M sh) (termAt sh i .args))
+unfolding codes
+code-is M sh w i h = codesFrom-at M [] (sh .terms) i i h (omega arith) (w .args i h)
+
+args-in-sorts : (size c sort : ℕ → ℕ) (i : ℕ) → ((a : ℕ) → a < i → c a < size (sort a)) → (l : List ℕ) → Each (λ a. a < i) l → InSorts size (map sort l) (map c l)
+args-in-sorts size c sort i h [] e = tt
+args-in-sorts size c sort i h (a ∷ l) e = (h a (e .0), args-in-sorts size c sort i h l (e .1))
+
+-- the codes of a term's arguments lie in the sorts that its symbol takes, where the codes of earlier terms are in range
+pub arguments-in-sorts : (sh : Sheet) → WellFormed sh → (size c : ℕ → ℕ) (i : ℕ) → i < length (sh .terms) → ((a : ℕ) → a < i → c a < size (sortAt sh a)) → InSorts size (symbolAt sh (termAt sh i .symbol) .params) (map c (termAt sh i .args))
+arguments-in-sorts sh w size c i h below =
+    subst (λ (ps : List ℕ). InSorts size ps (map c (termAt sh i .args))) (w .argSorts i h)
+    (args-in-sorts size c (sortAt sh) i below (termAt sh i .args) (w .args i h))
+
+below-to : (M : Structure) (sh : Sheet) → WellFormed sh → Interprets M sh → (n i : ℕ) → i < n → i < length (sh .terms) → code M sh i < M .size (sortAt sh i)
+below-to M sh w m zero i b h = absurd (omega arith)
+below-to M sh w m (suc n) i b h =
+    rw (code-is M sh w i h)
+    (m .complete (termAt sh i .symbol) (w .symbol i h) (map (code M sh) (termAt sh i .args))
+    (arguments-in-sorts sh w (M .size) (code M sh) i h (λ a l. below-to M sh w m n a (omega arith) (omega arith))))
+
+-- a term's code is below the size of its sort
+pub code-below : (M : Structure) (sh : Sheet) → WellFormed sh → Interprets M sh → (i : ℕ) → i < length (sh .terms) → code M sh i < M .size (sortAt sh i)
+code-below M sh w m i h = below-to M sh w m (suc i) i (omega arith) h
+
+-- same symbol and equal argument codes give equal codes
+pub code-congruent : (M : Structure) (sh : Sheet) → WellFormed sh → (i j : ℕ) → i < length (sh .terms) → j < length (sh .terms) → termAt sh i .symbol ≡ termAt sh j .symbol → map (code M sh) (termAt sh i .args) ≡ map (code M sh) (termAt sh j .args) → code M sh i ≡ code M sh j
+code-congruent M sh w i j h k p q = code-is M sh w i h ∙ ap₂ (M .table) p q ∙ sym (code-is M sh w j k)
+
+own-to : (M : Structure) (sh : Sheet) → WellFormed sh → (c : ℕ → ℕ) → ((i : ℕ) → i < length (sh .terms) → c i ≡ M .table (termAt sh i .symbol) (map c (termAt sh i .args))) → (n i : ℕ) → i < n → i < length (sh .terms) → code M sh i ≡ c i
+own-to M sh w c held zero i b h = absurd (omega arith)
+own-to M sh w c held (suc n) i b h =
+    code-is M sh w i h
+    ∙ ap (M .table (termAt sh i .symbol))
+    (map-each (code M sh) c (λ a. a < i) (λ a l. own-to M sh w c held n a (omega arith) (omega arith)) (termAt sh i .args) (w .args i h))
+    ∙ sym (held i h)
+
+-- codes that the tables hold at their arguments' codes are the structure's own
+pub codes-own : (M : Structure) (sh : Sheet) → WellFormed sh → (c : ℕ → ℕ) → ((i : ℕ) → i < length (sh .terms) → c i ≡ M .table (termAt sh i .symbol) (map c (termAt sh i .args))) → (i : ℕ) → i < length (sh .terms) → code M sh i ≡ c i
+codes-own M sh w c held i h = own-to M sh w c held (suc i) i (omega arith) h

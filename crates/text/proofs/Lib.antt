@@ -1,0 +1,5 @@
+pub mod Pasted
+pub mod Decimal
+pub mod PutNumber
+pub mod Lines
+pub mod Cells

@@ -1,0 +1,54 @@
+-- The lines that the find program prints (document 01, "Worked sheets"), as bytes, and where they go in a buffer.
+use Prim.Native.Nat.{ℕ, zero, suc, _+_, _/_, _%_, _≤_}
+use mathlib.Core.Path.{_≡_}
+use mathlib.Core.Bool.{true, false}
+use mathlib.Core.List.{List, [], _∷_, _++_}
+use lib.ListN.{length, take, drop}
+use lib.Dec.{ltb}
+
+-- the decimal digits of a number, at most k of them
+abbrev pub digits : ℕ → ℕ → List ℕ
+digits zero n = []
+digits (suc k) n = elim (ltb n 10) [ true ↦ (48 + n) ∷ [] | false ↦ digits k (n / 10) ++ ((48 + n % 10) ∷ []) ]
+
+-- the decimal digits of a number
+unfoldable pub decimal : ℕ → List ℕ
+decimal n = digits (suc n) n
+
+abbrev pub space : ℕ
+space = 32
+
+abbrev pub lineFeed : List ℕ
+lineFeed = 10 ∷ []
+
+-- each number after a space
+abbrev pub spaced : List ℕ → List ℕ
+spaced [] = []
+spaced (n ∷ ns) = (space ∷ decimal n) ++ spaced ns
+
+-- `found`, `refused`, `field`, `name`
+abbrev pub foundWord : List ℕ
+foundWord = 102 ∷ 111 ∷ 117 ∷ 110 ∷ 100 ∷ []
+
+abbrev pub refusedWord : List ℕ
+refusedWord = 114 ∷ 101 ∷ 102 ∷ 117 ∷ 115 ∷ 101 ∷ 100 ∷ []
+
+abbrev pub fieldWord : List ℕ
+fieldWord = 102 ∷ 105 ∷ 101 ∷ 108 ∷ 100 ∷ []
+
+abbrev pub nameWord : List ℕ
+nameWord = 110 ∷ 97 ∷ 109 ∷ 101 ∷ []
+
+-- a line: a word, and numbers after it
+abbrev pub line : List ℕ → List ℕ → List ℕ
+line word ns = word ++ (spaced ns ++ lineFeed)
+
+-- the list s in the buffer d from place i on; the rest of d stays
+abbrev pub pasted : List ℕ → ℕ → List ℕ → List ℕ
+pasted d i s = take i d ++ (s ++ drop (i + length s) d)
+
+-- the list s was written into the buffer d from place i on: d′ is the buffer then, r the place behind s
+pub record Wrote (d : List ℕ) (i : ℕ) (s : List ℕ) (d′ : List ℕ) (r : ℕ) : Type 0 where
+  pub end : r ≡ i + length s
+  pub within : r ≤ length d
+  pub held : d′ ≡ pasted d i s
