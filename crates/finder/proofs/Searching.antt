@@ -1,5 +1,6 @@
 -- From what the search shows of a parsed sheet to what find promises.
 use Prim.Native.Nat.{ℕ, _≤_, _<_}
+use native.Mathlib.Decide.{decLt}
 use native.Mathlib.Omega.{arith}
 use mathlib.Core.Path.{_≡_, refl, ap, sym, _∙_}
 use mathlib.Core.Bool.{Bool, true, false}
@@ -10,18 +11,18 @@ use Rattle.logic.specs.Sheet.{Sheet}
 use Rattle.logic.specs.WellFormed.{WellFormed}
 use Rattle.logic.specs.Structure.{at}
 use Rattle.logic.specs.Problem.{Problem, Allowed, Consistent, Least, Unsatisfiable}
-use Rattle.sheet.specs.Layout.{accepted, reading}
-use Rattle.sheet.specs.Packed.{packed, view}
+use Rattle.sheet.specs.Layout.{Reading, accepted, refused, reading}
+use Rattle.sheet.specs.Packed.{parsing, view}
 use Rattle.sheet.specs.Views.{Views}
 use Rattle.sheet.specs.declared.Parsed.{Parsed}
+use Rattle.sheet.specs.declared.Parsing.{Parsing}
+use Rattle.judge.proofs.Questions.{number-accepted, packs}
 use Rattle.sheet.proofs.Answers.{accepted-well-formed}
 use Rattle.tables.specs.Layout.{extent}
 use Rattle.tables.specs.Parts.{Packs, Limited}
 use Rattle.tables.proofs.Arrays.{symbols-packed}
 use Rattle.tables.proofs.Whole.{packs-limited}
-use Rattle.codes.specs.Searchable.{Searchable, Small}
-use Rattle.first.specs.First.{FirstCodes}
-use Rattle.sizes.specs.Sizes.{LeastSizes}
+use Rattle.codes.specs.Searchable.{Searchable}
 use Rattle.finder.specs.Answer.{entryOf}
 use Rattle.finder.specs.Find.{Outcome, turnedDown, answered, outcome, finds, codesIn, tablesIn, ceilings, finding, codesAfter, tablesAfter}
 use Rattle.finder.specs.Fill.{Writable, AnswerWritten, ReadFrom, Finds}
@@ -45,17 +46,20 @@ outcome-finds s cs ts cs′ ts′ r o e a b c =
 pub refusal-finds : (s cs ts : List ℕ) (n i : ℕ) → outcome s (length cs) (length ts) ≡ turnedDown n i → Finds s cs ts cs ts (Refused n i)
 refusal-finds s cs ts n i e = outcome-finds s cs ts cs ts (Refused n i) (turnedDown n i) e refl refl refl
 
--- the least sizes and the first codes at them are the least of all
-pub least-of : (P : Problem) (size c : ℕ → ℕ) → LeastSizes P true size → (found : Bool) → FirstCodes P size found c → Least P size c
-least-of P size c l false f = absurd (f .none refl (l .satisfiable refl .0) (l .satisfiable refl .1))
-least-of P size c l true f =
-    record {
-      allowed = l .allowed refl;
-      consistent = f .consistent refl;
-      sum = λ size′ c′ a x. l .first refl size′ a (c′, x) .sum;
-      sizes = λ size′ c′ a x e. l .first refl size′ a (c′, x) .places e;
-      codes = f .first refl;
-    }
+-- what the parser hands over: number 0 with a sheet that was read, or a refusal
+module _ (s : List ℕ) (q : Parsing) (e : q ≡ parsing (reading s)) where
+  unfoldable pub read-from : q .number ≡ 0 → ReadFrom (q .sheet)
+  read-from z =
+      let a = number-accepted s q e z in
+      record { bytes = s; sheet = a .sheet; reads = a .reads; same = packs s q e (a .sheet) (a .reads) .same }
+
+  pub read-refused : (nc nt : ℕ) → (q .number ≡ 0 → ⊥) → outcome s nc nt ≡ turnedDown (q .number) (q .place)
+  unfolding parsing
+  read-refused nc nt h = by (reading s) refl
+    where
+      by : (r : Reading) → reading s ≡ r → outcome s nc nt ≡ turnedDown (q .number) (q .place)
+      by (accepted sh) r = absurd (h (ap (λ (x : Parsing). x .number) (e ∙ ap parsing r)))
+      by (refused n i) r = rw (e ∙ ap parsing r) (outcome-refused s n i nc nt r)
 
 module _ (p : Parsed) (q : ReadFrom p) where
   abbrev sh : Sheet
@@ -85,9 +89,40 @@ module _ (p : Parsed) (q : ReadFrom p) where
         total = omega (arith, views .total, formed .total .1);
       }
 
-  -- allowed sizes have at most 16 codes
-  allowed-small : (size : ℕ → ℕ) → Allowed (view p) size → Small p size
-  allowed-small size a s h = omega (arith, a .ceiling s h, searchable .ceiling s h)
+  module _ (nc nt : ℕ) where
+    -- cause 10
+    pub short-codes : nc < p .terms → outcome (q .bytes) nc nt ≡ turnedDown 10 0
+    short-codes h = outcome-short (q .bytes) sh nc nt (q .reads) (inl (omega (arith, views .terms)))
 
-  pub least-small : (size : ℕ → ℕ) (found : Bool) → LeastSizes (view p) found size → found ≡ true → Small p size
-  least-small size found l e = allowed-small size (l .allowed e)
+    pub short-tables : nt < extent sh (ceilings sh) → outcome (q .bytes) nc nt ≡ turnedDown 10 0
+    short-tables h = outcome-short (q .bytes) sh nc nt (q .reads) (inr h)
+
+    module _ (codesFit : p .terms ≤ nc) (tablesFit : extent sh (ceilings sh) ≤ nt) where
+      there : length (sh .terms) ≤ nc
+      there = omega (arith, views .terms)
+
+      -- cause 11
+      pub nothing-found : Unsatisfiable (view p) → outcome (q .bytes) nc nt ≡ turnedDown 11 0
+      nothing-found = outcome-none sh (view p) formed views (q .bytes) nc nt (q .reads) there tablesFit
+
+      pub least-found : (size c : ℕ → ℕ) → Least (view p) size c → outcome (q .bytes) nc nt ≡ answered sh (entryOf sh size c)
+      least-found = outcome-least sh (view p) formed views (q .bytes) nc nt (q .reads) there tablesFit
+
+      -- an answer can be written
+      pub least-writable : (size c : ℕ → ℕ) → Least (view p) size c → Writable p size c nt
+      least-writable size c l =
+          record {
+            sheet = sh;
+            packs = stands;
+            sizes = small;
+            codes = λ i. by i (decLt i (p .terms));
+            past = λ i h. l .consistent .none i (omega (arith, views .terms));
+            room = omega (arith, extent-monotone sh formed size (ceilings sh) (λ s h. omega (arith, views .ceiling s h, l .allowed .ceiling s (omega (arith, views .sorts)))));
+          }
+        where
+          small : (s : ℕ) → s < length (sh .bounds) → size s ≤ 16
+          small s h = omega (arith, l .allowed .ceiling s (omega (arith, views .sorts)), searchable .ceiling s (omega (arith, views .sorts)))
+
+          by : (i : ℕ) → Dec (i < p .terms) → c i < 16
+          by i (yes h) = omega (arith, l .consistent .range i h, small (at (p .sort) i) (omega (arith, searchable .sorted .sort i h, views .sorts)))
+          by i (no h) = omega (arith, l .consistent .none i (omega arith))

@@ -54,16 +54,15 @@ fn find_parsed(p: Parsed, codes: &mut [u8], tables: &mut [u8]) -> Finding
             place: 0,
         };
     }
-    let s = sizes::least_sizes(p);
-    if !s.found {
+    let answer = search::search(p);
+    if !answer.found {
         return Finding::Refused {
             number: 11,
             place: 0,
         };
     }
-    let sizes = s.sizes;
-    let c = first::first_codes(p, sizes);
-    let chosen = c.codes;
+    let sizes = answer.sizes;
+    let chosen = answer.codes;
     let sum = write_answer(p, sizes, chosen, codes, tables);
     Finding::Found { sum }
 }
