@@ -1,14 +1,15 @@
 -- Two structures that agree on a sheet's sorts and cells answer it alike.
 use Prim.Native.Nat.{ℕ, _<_}
-use mathlib.Core.Path.{_≡_, sym, _∙_, subst}
+use mathlib.Core.Path.{_≡_, sym, _∙_}
 use mathlib.Core.List.{List, [], _∷_, map}
 use lib.ListN.{length}
 use native.Mathlib.Omega.{arith}
-use Rattle.logic.specs.Sheet.{Sheet, symbolAt, termAt, literalAt}
+use Rattle.logic.specs.Sheet.{Sheet, symbolAt, termAt}
 use Rattle.logic.specs.WellFormed.{WellFormed, Each}
-use Rattle.logic.specs.Structure.{Structure, InSorts, Interprets, Candidate, Holds, codes, code, at}
+use Rattle.logic.specs.Structure.{Structure, InSorts, Interprets, Candidate, codes, code}
 use Rattle.logic.specs.Order.{sizesOf, sumOf}
-use Rattle.logic.proofs.Meaning.{code-is, code-below, codes-own, arguments-in-sorts, length-codes, firsts-at, firsts-same, sumTo-same}
+use Rattle.logic.proofs.Codes.{reached-in-params, same-code, same-codes, satisfies-same}
+use Rattle.logic.proofs.Meaning.{firsts-same, sumTo-same}
 use Rattle.finder.specs.Answer.{Entry, sum}
 use Rattle.finder.specs.Demand.{Answers}
 
@@ -41,23 +42,16 @@ module _ (sh : Sheet) (w : WellFormed sh) (M N : Structure) (a : Alike sh M N) w
         };
       }
 
-  alike-codes : Interprets M sh → codes N sh ≡ codes M sh
-  alike-codes k =
-      sym (firsts-at (length (sh .terms)) (codes N sh) (length-codes N sh))
-      ∙ firsts-same (length (sh .terms)) (code N sh) (code M sh) (codes-own N sh w (code M sh) own)
-      ∙ firsts-at (length (sh .terms)) (codes M sh) (length-codes M sh)
-    where
-      own : (i : ℕ) → i < length (sh .terms) → code M sh i ≡ N .table (termAt sh i .symbol) (map (code M sh) (termAt sh i .args))
-      own i h =
-          code-is M sh w i h
-          ∙ sym (a .table (termAt sh i .symbol) (w .symbol i h) (map (code M sh) (termAt sh i .args))
-          (arguments-in-sorts sh w (M .size) (code M sh) i h (λ b l. code-below M sh w k b (omega arith))))
+  -- their tables agree at the cells that terms reach
+  reached : Interprets M sh → (i : ℕ) → i < length (sh .terms) → M .table (termAt sh i .symbol) (map (code M sh) (termAt sh i .args)) ≡ N .table (termAt sh i .symbol) (map (code M sh) (termAt sh i .args))
+  reached k i h =
+      sym (a .table (termAt sh i .symbol) (w .symbol i h) (map (code M sh) (termAt sh i .args)) (reached-in-params M sh w k i h))
 
   pub alike-answers : (e : Entry) → Answers sh e M → Answers sh e N
   alike-answers e k =
       record {
         candidate = alike-candidate (k .candidate);
-        satisfies = λ j h. subst (λ (l : List ℕ). Holds (at l) (literalAt sh j)) (sym same) (k .satisfies j h);
+        satisfies = satisfies-same M N sh (same-code M N sh w (reached (k .candidate .interprets))) (k .satisfies);
         sum = sums ∙ k .sum;
         sizes = sizes ∙ k .sizes;
         codes = same ∙ k .codes;
@@ -65,7 +59,7 @@ module _ (sh : Sheet) (w : WellFormed sh) (M N : Structure) (a : Alike sh M N) w
       }
     where
       same : codes N sh ≡ codes M sh
-      same = alike-codes (k .candidate .interprets)
+      same = sym (same-codes M N sh w (reached (k .candidate .interprets)))
 
       sums : sumOf N sh ≡ sumOf M sh
       sums = sumTo-same (length (sh .bounds)) (N .size) (M .size) (a .size)

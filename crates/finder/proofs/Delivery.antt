@@ -10,8 +10,12 @@ use Rattle.logic.specs.Sheet.{Sheet}
 use Rattle.logic.specs.WellFormed.{WellFormed}
 use Rattle.logic.specs.Structure.{at}
 use Rattle.logic.proofs.Meaning.{length-codes}
-use Rattle.sheet.specs.Layout.{accepted, reading}
+use Rattle.sheet.specs.Layout.{Reading, accepted, reading}
+use Rattle.sheet.proofs.Answers.{accepted-well-formed}
 use Rattle.tables.specs.Layout.{extent, decoded, encoded}
+use Rattle.judge.specs.Judge.{judgedOf, judgement}
+use Rattle.tables.specs.declared.Judgement.the-variants.{Fits}
+use Rattle.judge.proofs.Judged.{judged-says}
 use Rattle.finder.specs.Answer.{Entry, answer, sum, structureOf}
 use Rattle.finder.specs.Find.{ceilings, answering, finding, codesAfter, tablesAfter}
 use Rattle.finder.specs.Demand.{Answers, Delivered, Promised, codesWritten, tablesWritten}
@@ -108,7 +112,7 @@ module _ (sh : Sheet) (w : WellFormed sh) (s cs ts : List ℕ) (reads : reading 
       step none q = q
       step (some e) q = let r : Found (sum (e .sizes)) ≡ Refused 11 0 = sym (exits (some e) q .result) ∙ f in let z : _≡_ {A = ℕ} 0 1 = cc in absurd (omega arith)
 
-  -- THEOREM: demand 3 of every call
+  -- demand 3 of the call
   pub promised : Promised sh s cs ts
   promised =
       record {
@@ -118,6 +122,10 @@ module _ (sh : Sheet) (w : WellFormed sh) (s cs ts : List ℕ) (reads : reading 
         behindCodes = λ n f. let r : _ = found-is n f in behind-codes (r .0) (r .1);
         behindTables = λ n f. let r : _ = found-is n f in behind-tables (r .0) (r .1);
       }
+
+-- THEOREM: demand 3 of every call on an accepted sheet with buffers that suffice
+pub accepted-promised : (s cs ts : List ℕ) (sh : Sheet) → reading s ≡ accepted sh → length (sh .terms) ≤ length cs → extent sh (ceilings sh) ≤ length ts → Promised sh s cs ts
+accepted-promised s cs ts sh q = promised sh (accepted-well-formed s sh q) s cs ts q
 
 -- What is found and written does not depend on what the buffers held, nor on how long they are once they suffice.
 pub record Same (sh : Sheet) (s cs ts cs′ ts′ : List ℕ) : Type 0 where
@@ -136,3 +144,9 @@ same sh w s cs ts cs′ ts′ q h k h′ k′ =
           let r : (e : Entry) × (answer sh ≡ some e) × (sum (e .sizes) ≡ n) = found-is sh w s cs ts q h k n f in
           written sh w s cs ts q h k (r .0) (r .1) ∙ sym (written sh w s cs′ ts′ q h′ k′ (r .0) (r .1));
     }
+
+-- the judge finds that delivered tables fit
+pub judged-fits : (s : List ℕ) (sh : Sheet) (n : ℕ) (C T : List ℕ) → reading s ≡ accepted sh → Delivered sh n C T → judgement s T ≡ Fits
+unfolding judgement
+judged-fits s sh n C T q d =
+    ap (λ (r : Reading). judgedOf r T) q ∙ judged-says sh T Fits .1 (d .laid, d .candidate, d .satisfies)

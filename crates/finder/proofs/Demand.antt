@@ -1,4 +1,4 @@
--- Demand 3 holds of every well-formed sheet. Structures and what fits go over into each other: a candidate that satisfies the sheet has
+-- Demand 3 holds of every accepted sheet. Structures and what fits go over into each other: a candidate that satisfies the sheet has
 -- sizes and codes that fit; what fits are the sizes and codes of the tables made from them, whatever the unreached cells hold.
 use Prim.Native.Nat.{ℕ, _≤_, _<_}
 use mathlib.Core.Path.{_≡_, refl, ap, sym, _∙_, subst}
@@ -12,11 +12,13 @@ use Rattle.logic.specs.WellFormed.{WellFormed}
 use Rattle.logic.specs.Structure.{Structure, InSorts, Candidate, Satisfies, codes, code, at, sumTo}
 use Rattle.logic.specs.Order.{firsts, Before, sizesOf, sumOf, Earlier}
 use Rattle.logic.proofs.Meaning.{map-each, code-below, code-congruent, codes-own, length-codes, firsts-at, firsts-same}
-use Rattle.finder.specs.Answer.{Entry, cellOf, reachedCells, cellAt, structureWith, structureOf, unforced, answer, sum}
+use Rattle.sheet.specs.Layout.{accepted, reading}
+use Rattle.sheet.proofs.Answers.{accepted-well-formed}
+use Rattle.finder.specs.Answer.{Entry, entryOf, cellOf, reachedCells, cellAt, structureWith, structureOf, unforced, answer, sum}
 use Rattle.finder.specs.Demand.{Answers, Demand, Hopeless, Unreached, InTables}
 use Rattle.finder.proofs.Lists.{found-or-none}
 use Rattle.finder.proofs.Solving.{TermOf, term-of, own-cell, solution-same}
-use Rattle.finder.proofs.Listing.{Fits, entryOf, Chosen, chosen, Ahead, Sooner, sooner-asym, none-fits, sum-firsts}
+use Rattle.finder.proofs.Listing.{Fits, Chosen, chosen, Ahead, Sooner, sooner-asym, none-fits, sum-firsts}
 
 -- a candidate that satisfies the sheet fits
 pub structure-fits : (sh : Sheet) → WellFormed sh → (M : Structure) → Candidate M sh → Satisfies M sh → Fits sh (M .size) (code M sh)
@@ -127,7 +129,6 @@ unforced-in-tables : (sh : Sheet) (e : Entry) → ((s : ℕ) → s < length (sh 
 unfolding unforced
 unforced-in-tables sh e h w f l cs i = h (symbolAt sh f .result) (w .result f l)
 
--- THEOREM: demand 3
 pub demand : (sh : Sheet) → WellFormed sh → Demand sh
 demand sh w =
     record {
@@ -147,3 +148,7 @@ demand sh w =
 
     hope : Hopeless sh → (e : Entry) → answer sh ≡ some e → ⊥
     hope h e q = let a : Answers sh e (structureOf sh e) = answered e q in h (structureOf sh e) (a .candidate) (a .satisfies)
+
+-- THEOREM: demand 3 of every accepted sheet
+pub accepted-demand : (s : List ℕ) (sh : Sheet) → reading s ≡ accepted sh → Demand sh
+accepted-demand s sh q = demand sh (accepted-well-formed s sh q)

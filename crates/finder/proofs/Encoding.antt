@@ -6,51 +6,21 @@ use mathlib.Core.Logic.{inl, inr}
 use mathlib.Core.List.{List, [], _∷_, _++_, map, append-assoc}
 use lib.ListN.{length, getD, take, length-append, length-map, List·getD-append}
 use lib.Seq.{getD-append-add, take-append-add, take-at, take-all}
-use native.Mathlib.Nat.{suc-mul, mul-le-mul-right, mul-le-mul}
+use native.Mathlib.Nat.{suc-mul}
 use native.Mathlib.Omega.{arith}
 use Rattle.logic.specs.Sheet.{Sheet, Symbol, symbolAt}
-use Rattle.logic.specs.WellFormed.{WellFormed, Each}
+use Rattle.logic.specs.WellFormed.{WellFormed}
 use Rattle.logic.specs.Structure.{Structure, InSorts, Candidate, at, sumTo}
 use Rattle.logic.specs.Order.{firsts}
 use Rattle.logic.specs.Box.{Range, run, fronts, box}
-use Rattle.logic.proofs.Meaning.{length-firsts, at-firsts, sumTo-same}
+use Rattle.logic.proofs.Meaning.{length-firsts, at-firsts}
+use Rattle.logic.proofs.Sums.{sumTo-monotone}
+use Rattle.tables.proofs.Cells.{place-below, cells-same, place-same, cells-monotone}
+use Rattle.tables.proofs.Arrays.{offset-same}
 use Rattle.tables.specs.Layout.{cells, place, offset, extent, decoded, tableBytes, tablesFrom, encoded, WellLaid}
 use Rattle.finder.proofs.Lists.{Mem}
 use Rattle.finder.proofs.Boxes.{InBox, mem-box, headed}
 use Rattle.finder.proofs.Alike.{Alike}
-
--- cells and places (moves to the tables' laws)
-row-below : (c m p n : ℕ) → c < m → p < n → c * n + p < m * n
-row-below c m p n h l = omega (arith, suc-mul c n, mul-le-mul-right {m = suc c} {n = m} n h)
-
-place-below : (size : ℕ → ℕ) (params cs : List ℕ) → InSorts size params cs → place size params cs < cells size params
-place-below size [] [] i = omega arith
-place-below size [] (c ∷ cs) i = absurd i
-place-below size (s ∷ ss) [] i = absurd i
-place-below size (s ∷ ss) (c ∷ cs) i = row-below c (size s) (place size ss cs) (cells size ss) (i .0) (place-below size ss cs (i .1))
-
-cells-same : (n : ℕ) (size other : ℕ → ℕ) (params : List ℕ) → Each (λ s. s < n) params → ((s : ℕ) → s < n → size s ≡ other s) → cells size params ≡ cells other params
-cells-same n size other [] e h = refl
-cells-same n size other (s ∷ ss) e h = cc (h s (e .0), cells-same n size other ss (e .1) h)
-
-place-same : (n : ℕ) (size other : ℕ → ℕ) (params cs : List ℕ) → Each (λ s. s < n) params → ((s : ℕ) → s < n → size s ≡ other s) → place size params cs ≡ place other params cs
-place-same n size other [] cs e h = refl
-place-same n size other (s ∷ ss) [] e h = refl
-place-same n size other (s ∷ ss) (c ∷ cs) e h = cc (cells-same n size other ss (e .1) h, place-same n size other ss cs (e .1) h)
-
-cells-monotone : (n : ℕ) (size other : ℕ → ℕ) (params : List ℕ) → Each (λ s. s < n) params → ((s : ℕ) → s < n → size s ≤ other s) → cells size params ≤ cells other params
-cells-monotone n size other [] e h = omega arith
-cells-monotone n size other (s ∷ ss) e h = mul-le-mul (h s (e .0)) (cells-monotone n size other ss (e .1) h)
-
-sumTo-monotone : (n : ℕ) (f g : ℕ → ℕ) → ((i : ℕ) → i < n → f i ≤ g i) → sumTo n f ≤ sumTo n g
-sumTo-monotone zero f g h = omega arith
-sumTo-monotone (suc n) f g h = omega (arith, sumTo-monotone n f g (λ i l. h i (omega arith)), h n (omega arith))
-
-offset-same : (sh : Sheet) → WellFormed sh → (size other : ℕ → ℕ) → ((s : ℕ) → s < length (sh .bounds) → size s ≡ other s) → (f : ℕ) → f ≤ length (sh .symbols) → offset sh size f ≡ offset sh other f
-offset-same sh w size other h f l =
-    ap (λ (x : ℕ). length (sh .bounds) + x)
-    (sumTo-same f (λ g. cells size (symbolAt sh g .params)) (λ g. cells other (symbolAt sh g .params))
-    (λ g b. cells-same (length (sh .bounds)) size other (symbolAt sh g .params) (w .params g (omega arith)) h))
 
 pub extent-same : (sh : Sheet) → WellFormed sh → (size other : ℕ → ℕ) → ((s : ℕ) → s < length (sh .bounds) → size s ≡ other s) → extent sh size ≡ extent sh other
 extent-same sh w size other h = offset-same sh w size other h (length (sh .symbols)) (omega arith)

@@ -5,18 +5,16 @@ use native.Mathlib.Omega.{arith}
 use mathlib.Core.Path.{_≡_, refl, ap, ap₂, sym, _∙_}
 use mathlib.Core.List.{List, [], _∷_, _++_, map, append-assoc, append-nil, map-append}
 use lib.ListN.{length, getD}
-use lib.Dec.{ltb}
-use borrow.Author.Tests.{lt-ltb}
 use Rattle.logic.specs.Structure.{Structure, InSorts, at}
 use Rattle.logic.specs.Order.{firsts}
 use Rattle.logic.specs.WellFormed.{Each}
 use Rattle.logic.specs.Box.{Range, run, fronts, box}
 use Rattle.logic.proofs.Meaning.{firsts-same}
-use Rattle.sheet.specs.Layout.{if}
 use Rattle.sheet.specs.Packed.{first, second}
 use Rattle.tables.specs.Layout.{tableBytes}
-use Rattle.tables.specs.Grid.{grid, cellAt}
+use Rattle.tables.specs.Grid.{grid, gridCell}
 use Rattle.tables.specs.Parts.{width}
+use Rattle.tables.proofs.Arrays.{width-there}
 use Rattle.finder.proofs.Reach.{rowOf, columnOf}
 
 -- one more head in front of the tails
@@ -48,38 +46,34 @@ one-code g (suc n) =
     ∙ map-append g (fronts (run 0 n) ([] ∷ [])) ((n ∷ []) ∷ [])
     ∙ ap (λ (l : List ℕ). l ++ (g (n ∷ []) ∷ [])) (one-code g n)
 
-column : (t : List (List ℕ)) (g : List ℕ → ℕ) (n : ℕ) → ((r : ℕ) → r < n → cellAt t r 0 ≡ g (r ∷ [])) → grid t n 1 ≡ map g (fronts (run 0 n) ([] ∷ []))
+column : (t : List (List ℕ)) (g : List ℕ → ℕ) (n : ℕ) → ((r : ℕ) → r < n → gridCell t r 0 ≡ g (r ∷ [])) → grid t n 1 ≡ map g (fronts (run 0 n) ([] ∷ []))
 column t g n h = columns n h ∙ sym (one-code g n)
   where
-    columns : (k : ℕ) → ((r : ℕ) → r < k → cellAt t r 0 ≡ g (r ∷ [])) → grid t k 1 ≡ firsts k (λ y. g (y ∷ []))
+    columns : (k : ℕ) → ((r : ℕ) → r < k → gridCell t r 0 ≡ g (r ∷ [])) → grid t k 1 ≡ firsts k (λ y. g (y ∷ []))
     columns zero h = refl
     columns (suc k) h = ap₂ (λ (l : List ℕ) (x : ℕ). l ++ (x ∷ [])) (columns k (λ r b. h r (omega arith))) (h k (omega arith))
 
-rows : (t : List (List ℕ)) (g : List ℕ → ℕ) (n m : ℕ) → ((r c : ℕ) → r < n → c < m → cellAt t r c ≡ g (r ∷ c ∷ [])) → grid t n m ≡ map g (fronts (run 0 n) (fronts (run 0 m) ([] ∷ [])))
+rows : (t : List (List ℕ)) (g : List ℕ → ℕ) (n m : ℕ) → ((r c : ℕ) → r < n → c < m → gridCell t r c ≡ g (r ∷ c ∷ [])) → grid t n m ≡ map g (fronts (run 0 n) (fronts (run 0 m) ([] ∷ [])))
 rows t g zero m h = refl
 rows t g (suc n) m h =
     let tails = fronts (run 0 m) ([] ∷ []) in
     ap₂ (λ (x y : List ℕ). x ++ y) (rows t g n m (λ r c a b. h r c (omega arith) b))
-    (firsts-same m (cellAt t n) (λ y. g (n ∷ y ∷ [])) (λ c b. h n c (omega arith) b)
+    (firsts-same m (gridCell t n) (λ y. g (n ∷ y ∷ [])) (λ c b. h n c (omega arith) b)
     ∙ sym (one-code (λ l. g (n ∷ l)) m)
     ∙ sym (map-twice g n tails))
     ∙ sym (map-append g (fronts (run 0 n) tails) (map (λ (l : List ℕ). n ∷ l) tails))
     ∙ sym (ap (map g) (one-more n tails))
 
--- the width that a parameter gives where its sort is there
-width-there : (size : ℕ → ℕ) (n s : ℕ) → s < n → n ≤ 8 → width size s ≡ size s
-width-there size n s h k = rw (lt-ltb s 8 (omega arith))
-
 -- THE BYTES of a table from its rows
 pub bytes-grid :
-    (M : Structure) (f n : ℕ) (params : List ℕ) (t : List (List ℕ)) → n ≤ 8 → Each (λ s. s < n) params → length params ≤ 2
-    → ((xs : List ℕ) → InSorts (M .size) params xs → cellAt t (rowOf xs) (columnOf xs) ≡ M .table f xs)
+    (M : Structure) (f : ℕ) (params : List ℕ) (t : List (List ℕ)) → Each (λ s. s < 8) params → length params ≤ 2
+    → ((xs : List ℕ) → InSorts (M .size) params xs → gridCell t (rowOf xs) (columnOf xs) ≡ M .table f xs)
     → grid t (width (M .size) (first params)) (width (M .size) (second params)) ≡ tableBytes M f params
-bytes-grid M f n [] t few there short holds = ap (λ (x : ℕ). x ∷ []) (holds [] tt)
-bytes-grid M f n (a ∷ []) t few there short holds =
-    ap (λ (m : ℕ). grid t m 1) (width-there (M .size) n a (there .0) few)
+bytes-grid M f [] t there short holds = ap (λ (x : ℕ). x ∷ []) (holds [] tt)
+bytes-grid M f (a ∷ []) t there short holds =
+    ap (λ (m : ℕ). grid t m 1) (width-there (M .size) a (there .0))
     ∙ column t (M .table f) (M .size a) (λ r h. holds (r ∷ []) (h, tt))
-bytes-grid M f n (a ∷ b ∷ []) t few there short holds =
-    ap₂ (grid t) (width-there (M .size) n a (there .0) few) (width-there (M .size) n b (there .1 .0) few)
+bytes-grid M f (a ∷ b ∷ []) t there short holds =
+    ap₂ (grid t) (width-there (M .size) a (there .0)) (width-there (M .size) b (there .1 .0))
     ∙ rows t (M .table f) (M .size a) (M .size b) (λ r c h k. holds (r ∷ c ∷ []) (h, (k, tt)))
-bytes-grid M f n (a ∷ b ∷ d ∷ params) t few there short holds = absurd (omega arith)
+bytes-grid M f (a ∷ b ∷ d ∷ params) t there short holds = absurd (omega arith)

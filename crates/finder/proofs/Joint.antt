@@ -19,11 +19,11 @@ use Rattle.sheet.specs.Packed.{first, second, bit}
 use Rattle.sheet.specs.Views.{Views}
 use Rattle.sheet.specs.Layout.{accepted, reading}
 use Rattle.tables.specs.Layout.{extent}
-use Rattle.finder.specs.Answer.{answer, sum}
+use Rattle.finder.specs.Answer.{entryOf, answer, sum}
 use Rattle.finder.specs.Find.{turnedDown, answered, ceilings, outcome}
 use Rattle.finder.proofs.Solving.{solution-same}
 use Rattle.finder.proofs.Outcomes.{outcome-long}
-use Rattle.finder.proofs.Listing.{Fits, entryOf, Sooner, sum-firsts, nothing-fits, soonest}
+use Rattle.finder.proofs.Listing.{Fits, Sooner, sum-firsts, nothing-fits, soonest}
 
 -- Arguments by place: the one at place k, 255 where it is missing.
 abbrev argument : List ℕ → ℕ → ℕ

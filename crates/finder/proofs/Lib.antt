@@ -13,3 +13,5 @@ pub mod Worked
 pub mod Reach
 pub mod Filling
 pub mod Grid
+pub mod Writing
+pub mod Answering

@@ -17,7 +17,7 @@ use Rattle.logic.specs.Order.{Before, firsts}
 use Rattle.logic.specs.Box.{run, box}
 use Rattle.logic.proofs.Meaning.{length-firsts, at-firsts, firsts-at, sumTo-same}
 use Rattle.logic.proofs.OrderLaws.{before-asym, before-irrefl}
-use Rattle.finder.specs.Answer.{Entry, sum, each, sizeRange, codeRange, sizeRanges, codeRanges, sizesOfSum, entriesAt, listing, solves, answer}
+use Rattle.finder.specs.Answer.{Entry, entryOf, sum, each, sizeRange, codeRange, sizeRanges, codeRanges, sizesOfSum, entriesAt, listing, solves, answer}
 use Rattle.finder.proofs.Lists
 use Rattle.finder.proofs.Lists.{Mem, Sorted, First}
 use Rattle.finder.proofs.Boxes.{InBox, InRange, mem-run, run-mem, sorted-run, box-mem, mem-box, sorted-box, box-long, box-at, at-box}
@@ -28,9 +28,6 @@ pub record Fits (sh : Sheet) (size c : ℕ → ℕ) : Type 0 where
   pub bounded : Bounded sh size
   pub range : (i : ℕ) → i < length (sh .terms) → c i < size (sortAt sh i)
   pub solution : Solution sh c
-
-abbrev pub entryOf : Sheet → (ℕ → ℕ) → (ℕ → ℕ) → Entry
-entryOf sh size c = record { sizes = firsts (length (sh .bounds)) size; codes = firsts (length (sh .terms)) c }
 
 -- an entry stands in the listing
 pub record Listed (sh : Sheet) (e : Entry) : Type 0 where

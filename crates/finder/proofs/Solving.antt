@@ -1,29 +1,24 @@
 -- What `solves` tests, place by place; and what the tables made from codes hold.
 use Prim.Native.Nat.{ℕ, zero, suc, _+_, _<_}
 use mathlib.Core.Path.{_≡_, refl, ap, ap₂, sym, _∙_, subst}
-use mathlib.Core.Bool.{Bool, true, false, not, _&&_, _||_, false≢true}
+use mathlib.Core.Bool.{Bool, true, false, not, _||_, false≢true}
 use mathlib.Core.Logic.{inl, inr}
 use mathlib.Core.List.{List, [], _∷_, map}
 use mathlib.Core.Option.{none, some}
 use lib.ListN.{length, getD}
 use lib.Dec.{eqb}
 use native.Mathlib.Omega.{arith}
-use borrow.Author.Tests.{eqb-true, eqb-false, eq-eqb, ne-eqb, not-true}
+use borrow.Author.Tests.{eqb-true, eq-eqb}
 use Rattle.logic.specs.Sheet.{Sheet, Term, Literal, termAt, literalAt}
 use Rattle.logic.specs.WellFormed.{WellFormed}
-use Rattle.logic.specs.Structure.{at, Agree, Holds}
+use Rattle.logic.specs.Structure.{at, Holds}
 use Rattle.logic.proofs.Meaning.{map-each}
+use Rattle.logic.proofs.Codes.{holds-same}
 use Rattle.sheet.specs.Layout.{if, sameList}
-use Rattle.finder.specs.Answer.{Cell, cellOf, cellsFrom, reachedCells, agrees, functional, holds, allHold, solves, cellAt}
+use Rattle.tables.specs.Tests.{holds}
+use Rattle.tables.proofs.Tests.{decided, both, and-both, holds-true, holds-false}
+use Rattle.finder.specs.Answer.{Cell, cellOf, cellsFrom, reachedCells, agrees, functional, allHold, solves, cellAt}
 use Rattle.finder.proofs.Lists.{Mem}
-
-both : (a b : Bool) → (a && b) ≡ true → (a ≡ true) × (b ≡ true)
-both true b e = (refl, e)
-both false b e = absurd (false≢true e)
-
-and-both : (a b : Bool) → a ≡ true → b ≡ true → (a && b) ≡ true
-and-both true b e f = f
-and-both false b e f = absurd (false≢true e)
 
 same-list : (xs ys : List ℕ) → sameList xs ys ≡ true → xs ≡ ys
 same-list [] [] e = refl
@@ -118,27 +113,22 @@ pub record Solution (sh : Sheet) (c : ℕ → ℕ) : Type 0 where
   pub congruent : (i j : ℕ) → i < length (sh .terms) → j < length (sh .terms) → termAt sh i .symbol ≡ termAt sh j .symbol → map c (termAt sh i .args) ≡ map c (termAt sh j .args) → c i ≡ c j
   pub meets : (k : ℕ) → k < length (sh .literals) → Holds c (literalAt sh k)
 
-agree-is : (b : Bool) (x y : ℕ) → if b (eqb x y) (not (eqb x y)) ≡ true → Agree b x y
-agree-is true x y e = eqb-true x y e
-agree-is false x y e = eqb-false x y (not-true (eqb x y) e)
-
-is-agree : (b : Bool) (x y : ℕ) → Agree b x y → if b (eqb x y) (not (eqb x y)) ≡ true
-is-agree true x y h = eq-eqb x y h
-is-agree false x y h = ap not (ne-eqb x y h)
+hold-true : (c : ℕ → ℕ) (l : Literal) → Holds c l → holds c l ≡ true
+hold-true c l h = elim (decided (holds c l)) [ inl e ↦ e | inr e ↦ absurd (holds-false c l e h) ]
 
 abbrev literalIn : List Literal → ℕ → Literal
 literalIn ls k = getD ls k (record { equal = true; left = 0; right = 0 })
 
 all-hold : (c : ℕ → ℕ) (ls : List Literal) → allHold c ls ≡ true → (k : ℕ) → k < length ls → Holds c (literalIn ls k)
 all-hold c [] e k h = absurd (omega arith)
-all-hold c (l ∷ ls) e zero h = agree-is (l .equal) (c (l .left)) (c (l .right)) (both (holds c l) (allHold c ls) e .0)
+all-hold c (l ∷ ls) e zero h = holds-true c l (both (holds c l) (allHold c ls) e .0)
 all-hold c (l ∷ ls) e (suc k) h = all-hold c ls (both (holds c l) (allHold c ls) e .1) k (omega arith)
 
 hold-all : (c : ℕ → ℕ) (ls : List Literal) → ((k : ℕ) → k < length ls → Holds c (literalIn ls k)) → allHold c ls ≡ true
 hold-all c [] h = refl
 hold-all c (l ∷ ls) h =
     and-both (holds c l) (allHold c ls)
-    (is-agree (l .equal) (c (l .left)) (c (l .right)) (h 0 (omega arith)))
+    (hold-true c l (h 0 (omega arith)))
     (hold-all c ls (λ k b. h (suc k) (omega arith)))
 
 pub solved : (sh : Sheet) (cs : List ℕ) → solves sh cs ≡ true → Solution sh (at cs)
@@ -201,15 +191,11 @@ solution-same sh w c d same s =
       congruent = λ i j h k p q.
           sym (same i h) ∙ s .congruent i j h k p (args i h ∙ q ∙ sym (args j k)) ∙ same j k;
       meets = λ k h.
-          held (literalAt sh k .equal) (c (literalAt sh k .left)) (c (literalAt sh k .right))
-          (same (literalAt sh k .left) (w .left k h)) (same (literalAt sh k .right) (w .right k h)) (s .meets k h);
+          holds-same c d (literalAt sh k) (same (literalAt sh k .left) (w .left k h)) (same (literalAt sh k .right) (w .right k h)) (s .meets k h);
     }
   where
     args : (i : ℕ) → i < length (sh .terms) → map c (termAt sh i .args) ≡ map d (termAt sh i .args)
     args i h = map-each c d (λ a. a < i) (λ a l. same a (omega arith)) (termAt sh i .args) (w .args i h)
-
-    held : (b : Bool) (x y : ℕ) {x′ y′ : ℕ} → x ≡ x′ → y ≡ y′ → Agree b x y → Agree b x′ y′
-    held b x y p q a = rw (← p, ← q) a
 
 -- What tables made from codes hold: looking a key up among cells gives the code of a cell with this key, or nothing where there is none.
 record Kept (key : List ℕ) (xs : List Cell) (v : ℕ) : Type 0 where

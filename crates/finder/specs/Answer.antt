@@ -8,8 +8,10 @@ use lib.ListN.{length}
 use lib.Dec.{eqb}
 use Rattle.logic.specs.Sheet.{Sheet, Bound, Term, Literal, symbolAt}
 use Rattle.logic.specs.Structure.{Structure, at, sumTo}
+use Rattle.logic.specs.Order.{firsts}
 use Rattle.logic.specs.Box.{Range, run, box}
 use Rattle.sheet.specs.Layout.{if, sameList}
+use Rattle.tables.specs.Tests.{holds}
 
 -- Lists: what f gives of each entry, one after the other; the entries that pass a test; the first that does; the sum. (What a `let` binds
 -- is computed only where it is wanted, so that the worked sheets compute.)
@@ -32,6 +34,10 @@ sum l = sumTo (length l) (at l)
 pub record Entry : Type 0 where
   pub sizes : List ℕ
   pub codes : List ℕ
+
+-- the entry with these sizes and codes
+abbrev pub entryOf : Sheet → (ℕ → ℕ) → (ℕ → ℕ) → Entry
+entryOf sh size c = record { sizes = firsts (length (sh .bounds)) size; codes = firsts (length (sh .terms)) c }
 
 -- sizes from floor to ceiling (none, where a floor is above its ceiling), and codes below the size of the term's sort
 abbrev pub sizeRange : Bound → Range
@@ -83,10 +89,7 @@ abbrev pub functional : List Cell → Bool
 functional [] = true
 functional (x ∷ xs) = agrees x xs && functional xs
 
--- a literal holds where terms have the codes c; all do
-abbrev pub holds : (ℕ → ℕ) → Literal → Bool
-holds c l = if (l .equal) (eqb (c (l .left)) (c (l .right))) (not (eqb (c (l .left)) (c (l .right))))
-
+-- every literal holds where terms have the codes c; `holds` is the judge's test of one
 abbrev pub allHold : (ℕ → ℕ) → List Literal → Bool
 allHold c [] = true
 allHold c (l ∷ ls) = holds c l && allHold c ls

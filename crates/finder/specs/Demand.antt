@@ -1,5 +1,5 @@
--- Demand 3, in the words of document 01: what the answer by definition is among all structures. Proved for every accepted sheet in
--- proofs/Demand.antt.
+-- Demand 3, in the words of document 01: what the answer by definition is among all structures, and so what a call leaves behind. Proved
+-- for every accepted sheet: `accepted-demand` of proofs/Demand.antt, `accepted-promised` of proofs/Delivery.antt.
 use Prim.Native.Nat.{ℕ, _<_}
 use mathlib.Core.Path.{_≡_}
 use mathlib.Core.Logic.{_↔_, _⊎_}

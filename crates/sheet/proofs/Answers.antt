@@ -3,15 +3,15 @@
 use Prim.Native.Nat.{ℕ, zero, suc, _+_, _*_, _≤_, _<_}
 use native.Mathlib.Omega.{arith}
 use mathlib.Core.Path.{_≡_, refl, ap, sym, _∙_, subst}
-use mathlib.Core.Bool.{Bool, true, false, _||_, true≢false}
+use mathlib.Core.Bool.{Bool, true, false, _||_}
 use mathlib.Core.List.{List, [], _∷_, _++_, map}
 use lib.ListN.{length, getD, length-append, length-map}
 use lib.Dec.{leb, ltb, eqb}
 use borrow.Author.Tests.{leb-true, leb-false, eqb-true, eqb-false, eq-eqb, ne-eqb}
-use Rattle.logic.specs.Sheet.{Sheet, Bound, Symbol, Term, Literal, symbolAt, termAt, sortAt}
+use Rattle.logic.specs.Sheet.{Sheet, Symbol, Term, termAt, sortAt}
 use Rattle.logic.specs.WellFormed.{Each, WellFormed}
 use Rattle.sheet.specs.Layout
-use Rattle.sheet.specs.Layout.{Kind, kindOf, field, name, expression, same, differ, total, if, cut, cause, kindAt, lengthAt, payloadAt, Reading, accepted, refused, ended, readFrom, reading, empty, misplaced, wrongLength, tooMany, outOfRange, illSorted, repeated, reached}
+use Rattle.sheet.specs.Layout.{kindOf, total, if, cut, cause, kindAt, lengthAt, payloadAt, accepted, refused, ended, readFrom, reading, empty, misplaced, wrongLength, tooMany, outOfRange, illSorted, repeated}
 use Rattle.sheet.specs.SoFar.{SoFar}
 use Rattle.sheet.specs.Parts.{faultAt}
 use Rattle.sheet.proofs.Causes.{reached-5, no-total}

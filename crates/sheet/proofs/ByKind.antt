@@ -1,28 +1,28 @@
 -- A record by its kind: the payload's shape, and what follows where no cause applies.
-use Prim.Native.Nat.{ℕ, zero, suc, _+_, _≤_, _<_}
+use Prim.Native.Nat.{ℕ, _<_}
 use native.Mathlib.Omega.{arith}
-use mathlib.Core.Path.{_≡_, refl, ap, sym, _∙_, subst}
-use mathlib.Core.Bool.{Bool, true, false, not, _&&_, _||_, true≢false}
+use mathlib.Core.Path.{_≡_, ap, sym, _∙_, subst}
+use mathlib.Core.Bool.{false, _||_}
 use mathlib.Core.List.{List, [], _∷_}
-use lib.ListN.{length, getD, take, drop}
-use lib.Dec.{leb, ltb, eqb}
-use borrow.Author.Tests.{ltb-true, ltb-false, leb-true, leb-false, not-true, not-false}
+use lib.ListN.{length, getD, take}
+use lib.Dec.{ltb}
+use borrow.Author.Tests.{ltb-true, ltb-false, leb-false, not-false}
 use Rattle.logic.specs.Sheet.{Sheet}
-use Rattle.sheet.specs.Layout.{Kind, kindOf, field, name, expression, same, differ, total, rank, reached, misplaced, wrongLength, add}
+use Rattle.sheet.specs.Layout.{kindOf, wrongLength, add}
 use Rattle.sheet.specs.Step.{bytesOf, Short}
 use Rattle.sheet.specs.Parts.{later, Good}
 use Rattle.sheet.specs.declared.Payload.{Payload}
-use Rattle.sheet.proofs.Causes.{Placed, placed, Clear, clear, no-terms, no-total}
-use Rattle.sheet.proofs.Pairs.{argsOf, front, and-both}
+use Rattle.sheet.proofs.Causes.{Placed, placed, Clear, clear, no-terms}
+use Rattle.sheet.proofs.Bools.{and-both, or-both}
+use Rattle.sheet.proofs.Pairs.{front}
 
 -- kinds of one length only
 pub fixed : (m n : ℕ) → (ltb n m || ltb m n) ≡ false → n ≡ m
-fixed m n e = go (ltb n m) (ltb m n) refl refl e
-  where
-    go : (a b : Bool) → ltb n m ≡ a → ltb m n ≡ b → (a || b) ≡ false → n ≡ m
-    go true b ea eb z = absurd (true≢false z)
-    go false true ea eb z = absurd (true≢false z)
-    go false false ea eb z = let x = ltb-false n m ea in let y = ltb-false m n eb in omega arith
+fixed m n e =
+    let h = or-both (ltb n m) (ltb m n) e in
+    let x = ltb-false n m (h .0) in
+    let y = ltb-false m n (h .1) in
+    omega arith
 
 pub two-bytes : (q : Payload) → q .len ≡ 2 → bytesOf q ≡ q .b0 ∷ q .b1 ∷ []
 two-bytes q e = ap (λ (n : ℕ). take n (q .b0 ∷ q .b1 ∷ q .b2 ∷ [])) e

@@ -1,17 +1,17 @@
 -- The causes 3 to 8, case by case: what each test of the code comes to in the words of the layout.
-use Prim.Native.Nat.{ℕ, zero, suc, _+_, _≤_, _<_}
+use Prim.Native.Nat.{ℕ, zero, suc, _≤_, _<_}
 use native.Mathlib.Omega.{arith}
 use mathlib.Core.Path.{_≡_, refl, ap, sym, _∙_}
 use mathlib.Core.Bool.{Bool, true, false, not, _&&_, _||_, true≢false}
-use mathlib.Core.List.{List, [], _∷_, map}
-use lib.ListN.{length, getD, take, drop}
-use lib.Dec.{leb, ltb, eqb}
-use borrow.Author.Tests.{lt-ltb, le-ltb, le-leb, lt-leb, eq-eqb, ne-eqb, ltb-true, ltb-false, leb-true, leb-false, eqb-true, eqb-false, not-true, not-false}
-use Rattle.logic.specs.Sheet.{Sheet, Term, symbolAt, termAt, sortAt}
-use Rattle.logic.specs.WellFormed.{Each}
-use Rattle.sheet.specs.Layout.{Kind, other, field, name, expression, same, differ, total, kindOf, if, rank, reached, misplaced, wrongLength, shortest, longest, tooMany, outOfRange, illSorted, repeated, sameList, all, occurs, within}
-use Rattle.sheet.specs.Packed.{first, second}
+use mathlib.Core.List.{List, [], _∷_}
+use lib.ListN.{length}
+use lib.Dec.{ltb, eqb}
+use borrow.Author.Tests.{lt-ltb, le-ltb, le-leb, lt-leb, eq-eqb, ne-eqb, ltb-false, eqb-true, eqb-false}
+use Rattle.logic.specs.Sheet.{Sheet, sortAt}
+use Rattle.sheet.specs.Layout.{Kind, field, name, expression, same, total, kindOf, if, rank, reached, misplaced, wrongLength, shortest, longest, tooMany, outOfRange, illSorted, repeated, all, occurs, within}
+use Rattle.sheet.specs.Packed.{first}
 use Rattle.sheet.specs.Parts.{later}
+use Rattle.sheet.proofs.Bools.{or-all, or-fourth, and-no}
 
 -- a kind that is none of 1 to 6 has no rank
 pub no-rank : (k : ℕ) → (k ≡ 1 → ⊥) → (k ≡ 2 → ⊥) → (k ≡ 3 → ⊥) → (k ≡ 4 → ⊥) → (k ≡ 5 → ⊥) → (k ≡ 6 → ⊥) → 0 ≡ rank (kindOf k)
@@ -92,18 +92,6 @@ no-symbols sh h = eqb-true (length (sh .symbols)) 0 (go (eqb (length (sh .symbol
         absurd (omega arith)
 
 -- cause 3, test by test
-or-fourth : (a b c d : Bool) → d ≡ true → true ≡ (a || b || c || d)
-or-fourth true b c d e = refl
-or-fourth false true c d e = refl
-or-fourth false false true d e = refl
-or-fourth false false false d e = sym e
-
-or-all : (a b c d : Bool) → (a || b || c || d) ≡ false → (a ≡ false) × (b ≡ false) × (c ≡ false) × (d ≡ false)
-or-all true b c d e = absurd (true≢false e)
-or-all false true c d e = absurd (true≢false e)
-or-all false false true d e = absurd (true≢false e)
-or-all false false false d e = (refl, refl, refl, e)
-
 pub misplaced-kind : (sh : Sheet) (k : Kind) → rank k ≡ 0 → true ≡ misplaced sh k
 misplaced-kind sh k e = rw (eq-eqb (rank k) 0 e)
 
@@ -191,10 +179,6 @@ clear sh k p e = go (tooMany sh k) (outOfRange sh k p) (illSorted sh k p) (repea
 
 -- a field
 module _ (sh : Sheet) (b0 b1 : ℕ) where
-  and-no : (a b : Bool) → b ≡ false → (a && b) ≡ false
-  and-no true b e = e
-  and-no false b e = refl
-
   pub field-many : 8 ≤ length (sh .bounds) → 5 ≡ later sh field (b0 ∷ b1 ∷ [])
   field-many h = later-5 sh field (b0 ∷ b1 ∷ []) (le-leb 8 (length (sh .bounds)) h)
 

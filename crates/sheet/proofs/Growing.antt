@@ -2,19 +2,20 @@
 use Prim.Native.Nat.{ℕ, zero, suc, _+_, _≤_, _<_}
 use native.Mathlib.Omega.{arith}
 use mathlib.Core.Path.{_≡_, refl, ap, sym, _∙_, subst}
-use mathlib.Core.Bool.{Bool, true, false, not, _&&_, _||_, true≢false}
+use mathlib.Core.Bool.{Bool, true, false, _&&_, true≢false}
 use mathlib.Core.List.{List, [], _∷_, _++_, map}
-use lib.ListN.{length, getD, drop, length-append, List·getD-append}
+use lib.ListN.{length, getD, length-append, List·getD-append}
 use lib.Seq.{getD-append-seam}
 use lib.Dec.{leb, ltb, eqb}
-use borrow.Author.Tests.{ltb-true, ltb-false, leb-true, leb-false, eqb-true, not-true, not-false, eq-eqb}
-use Rattle.logic.specs.Sheet.{Sheet, Bound, Symbol, Term, Literal, boundAt, symbolAt, termAt, literalAt, sortAt}
+use borrow.Author.Tests.{ltb-true, ltb-false, leb-true, leb-false, eqb-true, not-false, eq-eqb}
+use Rattle.logic.specs.Sheet.{Sheet, Bound, Symbol, Term, Literal, symbolAt, termAt, sortAt}
 use Rattle.logic.specs.WellFormed.{Each, Within}
-use Rattle.sheet.specs.Layout.{Kind, kindOf, field, name, expression, same, differ, total, if, rank, reached, misplaced, wrongLength, shortest, longest, outOfRange, illSorted, all, within, sameList, occurs, cause, add, addBound, addSymbol, addTerm, addLiteral, withTotal, empty}
+use Rattle.sheet.specs.Layout.{Kind, kindOf, field, name, expression, same, differ, total, if, rank, reached, misplaced, wrongLength, shortest, longest, all, within, sameList, occurs, cause, add, addBound, addSymbol, addTerm, addLiteral, withTotal, empty}
 use Rattle.sheet.specs.SoFar.{SoFar}
 use Rattle.sheet.specs.Parts.{later}
-use Rattle.sheet.proofs.Causes.{Placed, placed, Clear, clear, no-total, no-literals, no-terms, no-symbols}
-use Rattle.sheet.proofs.Pairs.{and-both, all-below, each-weaken, map-below}
+use Rattle.sheet.proofs.Causes.{Placed, placed, Clear, clear, no-literals, no-terms, no-symbols}
+use Rattle.sheet.proofs.Bools.{and-both, or-both}
+use Rattle.sheet.proofs.Pairs.{all-below, each-weaken, map-below}
 
 -- what holds of each entry of a list, and of one more at its end
 pub more : {A : Type 0} (P : ℕ → A → Type 0) (l : List A) (a d : A) → ((i : ℕ) → i < length l → P i (getD l i d)) → P (length l) a
@@ -40,10 +41,6 @@ sameList-same (x ∷ xs) (y ∷ ys) e =
 same-sameList : (xs : List ℕ) → sameList xs xs ≡ true
 same-sameList [] = refl
 same-sameList (x ∷ xs) = rw (eq-eqb x x refl) (same-sameList xs)
-
-or-both : (a b : Bool) → (a || b) ≡ false → (a ≡ false) × (b ≡ false)
-or-both true b e = absurd (true≢false e)
-or-both false b e = (refl, e)
 
 -- a term that does not occur is none of the terms
 not-there : (t : Term) (ts : List Term) (d : Term) → occurs (t .symbol) (t .args) ts ≡ false → (i : ℕ) → i < length ts → getD ts i d ≡ t → ⊥
@@ -296,7 +293,7 @@ grown sh so k p e = go k p (fine sh k p e)
 pub empty-sofar : SoFar empty
 empty-sofar =
     record {
-      begun = λ h. h′ h;
+      begun = λ h. h;
       sorts = omega arith;
       symbols = omega arith;
       terms = omega arith;
@@ -315,6 +312,3 @@ empty-sofar =
       right = λ i h. absurd (omega arith);
       sides = λ i h. absurd (omega arith);
     }
-  where
-    h′ : 1 ≤ reached empty → 1 ≤ 0
-    h′ h = h

@@ -1,4 +1,5 @@
 pub mod View
+pub mod Bools
 pub mod Steps
 pub mod Causes
 pub mod Pack

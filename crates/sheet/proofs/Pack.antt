@@ -1,15 +1,15 @@
 -- The arrays of a parsed sheet: what stands in them, and that storing at the count adds an entry.
-use Prim.Native.Nat.{ℕ, zero, suc, _+_, _-_, _≤_, _<_}
+use Prim.Native.Nat.{ℕ, suc, _+_, _-_, _<_}
 use native.Mathlib.Omega.{arith}
 use mathlib.Core.Path.{_≡_, refl, ap, sym, _∙_}
-use mathlib.Core.Bool.{Bool, true, false}
 use mathlib.Core.List.{List, [], _∷_, _++_, map, append-assoc}
-use lib.ListN.{length, getD, set, replicate, length-append, length-map, List·getD-append, List·getD-map}
+use lib.ListN.{length, getD, set, replicate, length-append, length-map}
 use lib.Seq.{set-append-seam}
-use Rattle.logic.specs.Sheet.{Sheet, Bound, Symbol, Term, Literal, boundAt, symbolAt, termAt, sortAt}
+use Rattle.logic.specs.Sheet.{Sheet, Bound, Symbol, Term, Literal, symbolAt, termAt, sortAt}
 use Rattle.sheet.specs.Layout.{addBound, addSymbol, addTerm, addLiteral, withTotal}
 use Rattle.sheet.specs.Packed.{pad, first, second, bit, packed}
 use Rattle.sheet.specs.declared.Parsed.{Parsed}
+use Rattle.sheet.proofs.View.{at-pad-map, packed-views}
 
 map-append : {A : Type 0} (f : A → ℕ) (l m : List A) → map f (l ++ m) ≡ map f l ++ map f m
 map-append f [] m = refl
@@ -34,17 +34,6 @@ pad-more n f l a h =
     ap (λ (k : ℕ). set (pad n (map f l)) k (f a)) (sym (length-map l f))
     ∙ pad-snoc n (map f l) (f a) (rw (length-map l f) h)
     ∙ ap (pad n) (sym (map-append f l (a ∷ [])))
-
--- the entry at a place
-pub pad-at : {A : Type 0} (n : ℕ) (f : A → ℕ) (l : List A) (d : A) (i : ℕ) → i < length l → getD (pad n (map f l)) i 0 ≡ f (getD l i d)
-pad-at {A = A} n f l d i h =
-    List·getD-append (map f l) (replicate (n - length (map f l)) 0) 0 i (rw (length-map l f) h)
-    ∙ inside l i h
-  where
-    inside : (l : List A) (i : ℕ) → i < length l → getD (map f l) i 0 ≡ f (getD l i d)
-    inside [] i h = absurd (omega arith)
-    inside (x ∷ l) zero h = refl
-    inside (x ∷ l) (suc i) h = inside l i (omega arith)
 
 count-more : {A : Type 0} (l : List A) (a : A) → length l + 1 ≡ length (l ++ (a ∷ []))
 count-more l a = sym (length-append l (a ∷ []))
@@ -228,26 +217,21 @@ pub record Holds (p : Parsed) (sh : Sheet) : Type 0 where
 packed-holds : (sh : Sheet) → Holds (packed sh) sh
 unfolding packed
 packed-holds sh =
+    let v = packed-views sh in
     record {
       sorts = refl;
       symbols = refl;
       terms = refl;
       literals = refl;
       total = refl;
-      result = pad-at 64 (λ (f : Symbol). f .result) (sh .symbols) symbol′;
-      param0 = pad-at 64 (λ (f : Symbol). first (f .params)) (sh .symbols) symbol′;
-      param1 = pad-at 64 (λ (f : Symbol). second (f .params)) (sh .symbols) symbol′;
-      symbol = pad-at 128 (λ (t : Term). t .symbol) (sh .terms) term′;
-      arg0 = pad-at 128 (λ (t : Term). first (t .args)) (sh .terms) term′;
-      arg1 = pad-at 128 (λ (t : Term). second (t .args)) (sh .terms) term′;
-      sort = pad-at 128 (λ (t : Term). symbolAt sh (t .symbol) .result) (sh .terms) term′;
+      result = at-pad-map 64 (λ (f : Symbol). f .result) (sh .symbols) _;
+      param0 = at-pad-map 64 (λ (f : Symbol). first (f .params)) (sh .symbols) _;
+      param1 = at-pad-map 64 (λ (f : Symbol). second (f .params)) (sh .symbols) _;
+      symbol = v .symbol;
+      arg0 = v .arg0;
+      arg1 = v .arg1;
+      sort = v .sort;
     }
-  where
-    symbol′ : Symbol
-    symbol′ = record { result = 0; params = [] }
-
-    term′ : Term
-    term′ = record { symbol = 0; args = [] }
 
 pub holds : (p : Parsed) (sh : Sheet) → p ≡ packed sh → Holds p sh
 holds p sh e = rw e (packed-holds sh)

@@ -3,19 +3,20 @@
 use Prim.Native.Nat.{ℕ, zero, suc, _+_, _≤_, _<_}
 use native.Mathlib.Omega.{arith}
 use native.Mathlib.Numerals.{add-one}
-use mathlib.Core.Path.{_≡_, refl, ap, sym, _∙_}
-use mathlib.Core.Bool.{Bool, true, false, not, _&&_, _||_, and-true, true≢false}
+use mathlib.Core.Path.{_≡_, refl, ap, sym}
+use mathlib.Core.Bool.{Bool, true, _&&_, _||_, and-true}
 use mathlib.Core.List.{List, [], _∷_, map}
 use lib.ListN.{length, getD, take, drop}
 use lib.Seq.{drop-cons}
-use lib.Dec.{leb, ltb, eqb}
-use borrow.Author.Tests.{lt-ltb, le-ltb, ne-eqb, ltb-true, ltb-false}
+use lib.Dec.{ltb, eqb}
+use borrow.Author.Tests.{lt-ltb, le-ltb, ne-eqb, ltb-true}
 use Rattle.logic.specs.Sheet.{Term}
 use Rattle.logic.specs.WellFormed.{Each}
 use Rattle.sheet.specs.Layout.{if, sameList, all, occurs}
 use Rattle.sheet.specs.Packed.{first, second}
 use Rattle.sheet.specs.Step.{bytesOf, Short}
 use Rattle.sheet.specs.declared.Payload.{Payload}
+use Rattle.sheet.proofs.Bools.{and-both}
 
 -- at most two numbers, none of which is 255
 pub record Pair (l : List ℕ) : Type 0 where
@@ -101,12 +102,7 @@ module _ (q : Payload) (h : Short q) where
       go (suc (suc (suc zero))) e e′ = ap (λ (b : Bool). ltb (q .b1) n && b) (sym (and-true (ltb (q .b2) n)))
       go (suc (suc (suc (suc m)))) e e′ = absurd (omega arith)
 
--- what passes the test is below, and the other way round
-pub and-both : (a b : Bool) → (a && b) ≡ true → (a ≡ true) × (b ≡ true)
-and-both true true e = (refl, refl)
-and-both true false e = absurd (true≢false (sym e))
-and-both false b e = absurd (true≢false (sym e))
-
+-- what passes the test is below
 pub all-below : (n : ℕ) (l : List ℕ) → all (λ a. ltb a n) l ≡ true → Each (λ a. a < n) l
 all-below n [] e = tt
 all-below n (x ∷ l) e =

@@ -2,23 +2,23 @@
 use Prim.Native.Nat.{ℕ, zero, suc, _+_, _≤_, _<_}
 use native.Mathlib.Omega.{arith}
 use mathlib.Core.Path.{_≡_, refl, ap, sym, _∙_, subst}
-use mathlib.Core.Bool.{Bool, true, false, _||_, true≢false}
+use mathlib.Core.Bool.{Bool, true, false}
 use mathlib.Core.List.{List, [], _∷_}
 use lib.ListN.{length, take, drop}
-use lib.Dec.{leb, ltb, eqb}
+use lib.Dec.{leb, ltb}
 use borrow.Author.Tests.{ltb-false, le-ltb, lt-ltb, le-leb, lt-leb, eq-eqb, ne-eqb}
 use Rattle.logic.specs.Sheet.{Sheet}
 use Rattle.sheet.specs.Layout
-use Rattle.sheet.specs.Layout.{kindOf, if, misplaced, wrongLength, cause, cut, kindAt, lengthAt, payloadAt, Reading, accepted, refused, ended, readFrom, reading, empty}
+use Rattle.sheet.specs.Layout.{kindOf, if, misplaced, wrongLength, cause, cut, kindAt, lengthAt, payloadAt, accepted, refused, ended, readFrom, reading, empty}
 use Rattle.sheet.specs.Packed.{packed, parsing}
 use Rattle.sheet.specs.Step.{stepAt, bytesOf, Short}
-use Rattle.sheet.specs.SoFar.{SoFar, Known}
+use Rattle.sheet.specs.SoFar.{Known}
 use Rattle.sheet.specs.Parts.{later, faultAt, Took}
 use Rattle.sheet.specs.declared.Parsed.{Parsed}
 use Rattle.sheet.specs.declared.Payload.{Payload}
 use Rattle.sheet.specs.declared.Taken.{Taken}
-use Rattle.sheet.specs.declared.Step.{Step}
 use Rattle.sheet.specs.declared.Step.the-variants.{Record, Cut, End}
+use Rattle.sheet.proofs.Bools.{or-both}
 use Rattle.sheet.proofs.Causes.{placed, ranked}
 use Rattle.sheet.proofs.Growing.{grown, empty-sofar}
 use Rattle.sheet.proofs.Pack.{holds}
@@ -41,12 +41,8 @@ pub kind-known : (sh : Sheet) (k : ℕ) → misplaced sh (kindOf k) ≡ false �
 kind-known sh k e = ranked k (placed sh (kindOf k) e .known)
 
 pub one-to-three : (k n : ℕ) → 1 ≤ k → k ≤ 6 → wrongLength k n ≡ false → (1 ≤ n) × (n ≤ 3)
-one-to-three k n a b e = go k a b (both (ltb n (Layout.shortest k)) (ltb (Layout.longest k) n) e)
+one-to-three k n a b e = go k a b (or-both (ltb n (Layout.shortest k)) (ltb (Layout.longest k) n) e)
   where
-    both : (a b : Bool) → (a || b) ≡ false → (a ≡ false) × (b ≡ false)
-    both true b e = absurd (true≢false e)
-    both false b e = (refl, e)
-
     go : (k : ℕ) → 1 ≤ k → k ≤ 6 → (ltb n (Layout.shortest k) ≡ false) × (ltb (Layout.longest k) n ≡ false) → (1 ≤ n) × (n ≤ 3)
     go zero a b e = absurd (omega arith)
     go (suc zero) a b e = let x = ltb-false n 2 (e .0) in let y = ltb-false 2 n (e .1) in omega arith
@@ -67,18 +63,29 @@ length-bytes q h = go (q .len) (h .most)
     go (suc (suc (suc zero))) e = refl
     go (suc (suc (suc (suc n)))) e = absurd (omega arith)
 
+-- what the causes 3 and 4 and the reading of the payload have shown of a record of kind number k, payload p and bytes q
+pub record Tested (sh : Sheet) (k : ℕ) (p : List ℕ) (q : Payload) : Type 0 where
+  pub placed : misplaced sh (kindOf k) ≡ false
+  pub sized : wrongLength k (length p) ≡ false
+  pub bytes : bytesOf q ≡ p
+  pub short : Short q
+
+module _ (sh : Sheet) (k : ℕ) (p : List ℕ) (q : Payload) (t : Tested sh k p q) where
+  pub tested-sized : wrongLength k (q .len) ≡ false
+  tested-sized = ap (wrongLength k) (sym (length-bytes q (t .short)) ∙ ap length (t .bytes)) ∙ t .sized
+
+  pub tested-cause : later sh (kindOf k) (bytesOf q) ≡ cause sh k p
+  tested-cause = ap (later sh (kindOf k)) (t .bytes) ∙ cause-later sh k p (t .placed) (t .sized)
+
 -- a refused record: only its number is promised
 pub took-refused : (number′ next′ k : ℕ) (p : List ℕ) (sh : Sheet) (r : Taken) → r .number ≡ number′ → (r .number ≡ 0 → ⊥) → Took number′ next′ k p sh r
 took-refused number′ next′ k p sh r e h = record { number = e; next = λ z. absurd (h z); sheet = λ z. absurd (h z) }
 
 -- what stands at a position, from the record step
 pub uncut : (s : List ℕ) (i : ℕ) → cut s i ≡ false → i + 4 + lengthAt s i ≤ length s
-uncut s i e = go (ltb (length s) (i + 4)) (ltb (length s) (i + 4 + lengthAt s i)) refl refl e
-  where
-    go : (a b : Bool) → ltb (length s) (i + 4) ≡ a → ltb (length s) (i + 4 + lengthAt s i) ≡ b → (a || b) ≡ false → i + 4 + lengthAt s i ≤ length s
-    go true b ea eb z = absurd (true≢false z)
-    go false true ea eb z = absurd (true≢false z)
-    go false false ea eb z = ltb-false (length s) (i + 4 + lengthAt s i) eb
+uncut s i e =
+    ltb-false (length s) (i + 4 + lengthAt s i)
+    (or-both (ltb (length s) (i + 4)) (ltb (length s) (i + 4 + lengthAt s i)) e .1)
 
 pub record Whole (s : List ℕ) (i a b d : ℕ) : Type 0 where
   pub kind : a ≡ kindAt s i

@@ -4,13 +4,12 @@ use native.Mathlib.Omega.{arith}
 use mathlib.Core.Path.{_≡_, refl, ap, sym, _∙_}
 use mathlib.Core.Bool.{Bool, true, false, _||_, or-true}
 use mathlib.Core.List.{List, [], _∷_}
-use lib.ListN.{length, getD, take, drop, length-take, length-drop, List·getD-eq-default}
+use lib.ListN.{length, getD, take, drop, length-drop, List·getD-eq-default}
 use lib.Seq.{length-take-le, getD-take, getD-drop}
-use lib.Dec.{leb, ltb}
+use lib.Dec.{ltb}
 use borrow.Author.Tests.{lt-ltb, le-ltb, le-leb, lt-leb}
-use Rattle.sheet.specs.Layout.{cut, lengthAt, kindAt, payloadAt}
+use Rattle.sheet.specs.Layout.{cut, lengthAt, kindAt}
 use Rattle.sheet.specs.Step.{stepAt, bytesOf, Short}
-use Rattle.sheet.specs.declared.Payload.{Payload}
 use Rattle.sheet.specs.declared.Step.the-variants.{Record, Cut, End}
 
 pub cut-head : (s : List ℕ) (i : ℕ) → length s < i + 4 → cut s i ≡ true

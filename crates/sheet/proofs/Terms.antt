@@ -1,15 +1,15 @@
 -- The tests of an expression against the sheet so far: the sorts of its arguments, and whether it is there already.
 use Prim.Native.Nat.{ℕ, _+_, _≤_, _<_}
 use native.Mathlib.Omega.{arith}
-use mathlib.Core.Path.{_≡_, refl, ap, sym, _∙_}
-use mathlib.Core.Bool.{Bool, true, false, not, _&&_, _||_}
+use mathlib.Core.Path.{_≡_, ap, sym, _∙_}
+use mathlib.Core.Bool.{Bool, false, not, _&&_, _||_}
 use mathlib.Core.List.{List, [], _∷_, map}
 use lib.ListN.{length, getD, drop, length-map, drop-of-length-le}
 use lib.Dec.{ltb, eqb}
 use Rattle.logic.specs.Sheet.{Sheet, Term, symbolAt, termAt, sortAt}
 use Rattle.logic.specs.WellFormed.{Each}
-use Rattle.sheet.specs.Layout.{if, expression, illSorted, sameList, occurs}
-use Rattle.sheet.specs.Packed.{first, second, packed}
+use Rattle.sheet.specs.Layout.{if, expression, illSorted, occurs}
+use Rattle.sheet.specs.Packed.{first, second}
 use Rattle.sheet.specs.SoFar.{SoFar, Known}
 use Rattle.sheet.specs.declared.Parsed.{Parsed}
 use Rattle.sheet.proofs.Pack.{Holds, holds}

@@ -1,17 +1,13 @@
 -- What the parts of the parser promise, in the words of the layout.
-use Prim.Native.Nat.{ℕ, _+_, _≤_, _<_}
+use Prim.Native.Nat.{ℕ}
 use mathlib.Core.Path.{_≡_}
-use mathlib.Core.Bool.{Bool, true, false}
+use mathlib.Core.Bool.{false}
 use mathlib.Core.List.{List}
-use lib.ListN.{length}
-use lib.Dec.{leb, ltb, eqb}
 use Rattle.logic.specs.Sheet.{Sheet}
 use Rattle.sheet.specs.Layout
-use Rattle.sheet.specs.Layout.{Kind, kindOf, if, misplaced, wrongLength, tooMany, outOfRange, illSorted, repeated, cause, cut, kindAt, lengthAt, payloadAt}
+use Rattle.sheet.specs.Layout.{Kind, kindOf, if, misplaced, wrongLength, tooMany, outOfRange, illSorted, repeated, cause, cut, kindAt, payloadAt}
 use Rattle.sheet.specs.Packed.{packed}
 use Rattle.sheet.specs.Step.{bytesOf}
-use Rattle.sheet.specs.SoFar.{SoFar, Known}
-use Rattle.sheet.specs.declared.Parsed.{Parsed}
 use Rattle.sheet.specs.declared.Payload.{Payload}
 use Rattle.sheet.specs.declared.Taken.{Taken}
 

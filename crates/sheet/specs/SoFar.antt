@@ -2,9 +2,9 @@
 -- there.
 use Prim.Native.Nat.{ℕ, _≤_, _<_}
 use mathlib.Core.Path.{_≡_}
-use mathlib.Core.List.{List, map}
+use mathlib.Core.List.{map}
 use lib.ListN.{length}
-use Rattle.logic.specs.Sheet.{Sheet, Bound, Symbol, Term, Literal, boundAt, symbolAt, termAt, literalAt, sortAt}
+use Rattle.logic.specs.Sheet.{Sheet, boundAt, symbolAt, termAt, literalAt, sortAt}
 use Rattle.logic.specs.WellFormed.{Each, Within}
 use Rattle.sheet.specs.Layout.{reached}
 use Rattle.sheet.specs.Packed.{packed}

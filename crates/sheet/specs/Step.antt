@@ -2,7 +2,7 @@
 use Prim.Native.Nat.{ℕ, _+_, _≤_, _<_}
 use mathlib.Core.Path.{_≡_}
 use mathlib.Core.List.{List, [], _∷_}
-use lib.ListN.{length, take, drop}
+use lib.ListN.{length, take}
 use lib.Dec.{leb}
 use Rattle.sheet.specs.Layout.{if, cut, kindAt, lengthAt}
 use Rattle.sheet.specs.declared.Step.{Step}

@@ -2,13 +2,13 @@
 use crate::Parsed;
 use crate::Payload;
 ghost use mathlib.Core.Path.{_≡_};
-ghost use mathlib.Core.Bool.{Bool, true, false, _&&_};
-ghost use mathlib.Core.List.{List, [], _∷_};
-ghost use Prim.Native.Nat.{ℕ, _+_, _<_, _≤_};
+ghost use mathlib.Core.Bool.{true, false, _&&_};
+ghost use mathlib.Core.List.{[], _∷_};
+ghost use Prim.Native.Nat.{_<_, _≤_};
 ghost use lib.ListN.{length, getD, drop};
 ghost use lib.Dec.{ltb, eqb};
 ghost use Rattle.logic.specs.Sheet.{Sheet};
-ghost use Rattle.sheet.specs.Layout.{if, kindOf, rank, reached, misplaced, wrongLength, shortest, longest, all, within, occurs, illSorted, field, name, expression, same, differ, total};
+ghost use Rattle.sheet.specs.Layout.{if, kindOf, rank, reached, misplaced, wrongLength, shortest, longest, all, within, occurs, illSorted, field, name, expression, same, total};
 ghost use Rattle.sheet.specs.Packed.{packed};
 ghost use Rattle.sheet.specs.Step.{bytesOf, Short};
 ghost use Rattle.sheet.specs.SoFar.{Known};

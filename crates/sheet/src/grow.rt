@@ -2,9 +2,8 @@
 use crate::Parsed;
 use crate::Payload;
 ghost use mathlib.Core.Path.{_≡_};
-ghost use mathlib.Core.Bool.{Bool, true, false};
-ghost use mathlib.Core.List.{List, [], _∷_};
-ghost use Prim.Native.Nat.{ℕ, _+_, _<_, _≤_};
+ghost use mathlib.Core.Bool.{Bool};
+ghost use Prim.Native.Nat.{_+_, _<_};
 ghost use lib.ListN.{length, drop};
 ghost use Rattle.logic.specs.Sheet.{Sheet};
 ghost use Rattle.sheet.specs.Layout.{kindOf, addBound, addSymbol, addTerm, addLiteral, withTotal, add};

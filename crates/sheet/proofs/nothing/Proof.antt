@@ -1,6 +1,6 @@
 -- Every array is padding.
 use Rattle.sheet.specs.Packed.{packed}
-use mathlib.Core.Path.{_≡_, refl, ap, sym, _∙_}
+use mathlib.Core.Path.{refl}
 use Rattle.sheet.proofs.nothing.Statement.{statement}
 use Rattle.sheet.proofs.nothing.Tie as tie
 

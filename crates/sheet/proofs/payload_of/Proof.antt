@@ -15,7 +15,11 @@ byte-or-requires-3 : tie.Need-byte-or-requires-3
 byte-or-requires-3 c κs = search needs
 
 returns : tie.Need-returns
-returns c = let a = c .before .before .before .before .args in short (a .s .now) (a .start) (a .len) (c .before .before .byte-or .result) (c .before .byte-or2 .result) (c .byte-or3 .result) (omega arith) (omega arith) (omega arith) (c .before .before .byte-or .ensures) (c .before .byte-or2 .ensures) (c .byte-or3 .ensures)
+returns c =
+    let a = c .before .before .before .before .args in
+    short (a .s .now) (a .start) (a .len) (c .before .before .byte-or .result) (c .before .byte-or2 .result)
+    (c .byte-or3 .result) (omega arith) (omega arith) (omega arith) (c .before .before .byte-or .ensures)
+    (c .before .byte-or2 .ensures) (c .byte-or3 .ensures)
 
 pub payload-of-spec : {M : Type 1} → statement M
 payload-of-spec =

@@ -1,5 +1,5 @@
 -- A parsed sheet has number 0, and no refusal has.
-use mathlib.Core.Path.{_≡_, refl, ap, sym, _∙_}
+use native.Mathlib.Omega.{arith}
 use Rattle.sheet.proofs.Verdicts.{verdict-accepted, verdict-refused}
 use borrow.Author.Needs.{needs}
 use Rattle.sheet.proofs.read.Statement.{statement}
@@ -9,10 +9,14 @@ parse-requires : tie.Need-parse-requires
 parse-requires c κs = search needs
 
 returns : tie.Need-returns
-returns c = verdict-accepted (c .before .before .before .before .args .s .now) (c .before .before .parse .result) (c .before .before .parse .ensures) (c .if1 .taken)
+returns c =
+    verdict-accepted (c .before .before .before .before .args .s .now) (c .before .before .parse .result)
+    (c .before .before .parse .ensures) (omega arith)
 
 returns-2 : tie.Need-returns-2
-returns-2 c = verdict-refused (c .before .before .before .before .args .s .now) (c .before .before .parse .result) (c .before .before .parse .ensures) (c .if1 .left)
+returns-2 c =
+    verdict-refused (c .before .before .before .before .args .s .now) (c .before .before .parse .result)
+    (c .before .before .parse .ensures) (c .if1 .left)
 
 pub read-spec : {M : Type 1} → statement M
 read-spec = tie.close (tie.spec parse-requires returns returns-2)

@@ -1,7 +1,4 @@
 -- By the sheet before its first record.
-use mathlib.Core.Path.{_≡_, refl, ap, sym, _∙_}
-use Rattle.sheet.specs.declared.Parsed.{Parsed}
-use Rattle.sheet.specs.declared.Parsing.{Parsing}
 use Rattle.sheet.specs.Packed.{parsing}
 use borrow.Author.Needs.{needs}
 use Rattle.sheet.proofs.refusal.Statement.{statement}

@@ -1,7 +1,5 @@
 -- Each return is a case of `stepAt`.
 use native.Mathlib.Omega.{arith}
-use Rattle.sheet.specs.Layout.{lengthAt, kindAt}
-use mathlib.Core.Path.{_≡_, _∙_, sym, ap}
 use Rattle.sheet.proofs.Steps.{cut-head, cut-payload, step-end, step-cut, step-record}
 use borrow.Author.Needs.{needs}
 use Rattle.sheet.proofs.step_at.Statement.{statement}
@@ -14,7 +12,9 @@ sub-if2 : tie.Need-sub-if2
 sub-if2 c = search needs
 
 returns-2 : tie.Need-returns-2
-returns-2 c = let a = c .before .before .before .args in step-cut (a .s .now) (a .at) (omega arith) (cut-head (a .s .now) (a .at) (omega arith))
+returns-2 c =
+    let a = c .before .before .before .args in
+    step-cut (a .s .now) (a .at) (omega arith) (cut-head (a .s .now) (a .at) (omega arith))
 
 word-requires : tie.Need-word-requires
 word-requires c κs = search needs
@@ -26,7 +26,9 @@ sub-if3-2 : tie.Need-sub-if3-2
 sub-if3-2 c = search needs
 
 returns-3 : tie.Need-returns-3
-returns-3 c = let a = c .before .before .before .before .before .args in step-cut (a .s .now) (a .at) (omega arith) (cut-payload (a .s .now) (a .at) (omega arith))
+returns-3 c =
+    let a = c .before .before .before .before .before .args in
+    step-cut (a .s .now) (a .at) (omega arith) (cut-payload (a .s .now) (a .at) (omega arith))
 
 add-word : tie.Need-add-word
 add-word c = search needs
@@ -38,7 +40,9 @@ add-t8 : tie.Need-add-t8
 add-t8 c = search needs
 
 returns-4 : tie.Need-returns-4
-returns-4 c = let a = c .before .before .before .before .before .before .args in rw (c .word2 .ensures .0, c .before .before .word .ensures .0) (step-record (a .s .now) (a .at) (omega arith))
+returns-4 c =
+    let a = c .before .before .before .before .before .before .args in
+    rw (c .word2 .ensures .0, c .before .before .word .ensures .0) (step-record (a .s .now) (a .at) (omega arith))
 
 pub step-at-spec : {M : Type 1} → statement M
 step-at-spec =

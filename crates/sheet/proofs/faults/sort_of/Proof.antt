@@ -12,7 +12,9 @@ element-copy-out-result : tie.Need-element-copy-out-result
 element-copy-out-result c = search needs
 
 returns : tie.Need-returns
-returns c = let a = c .before .before .before .args in rw (c .before .before .wide .ensures .0, lt-ltb (a .a) (a .t1 .terms) (omega arith))
+returns c =
+    let a = c .before .before .before .args in
+    rw (c .before .before .wide .ensures .0, lt-ltb (a .a) (a .t1 .terms) (omega arith))
 
 returns-2 : tie.Need-returns-2
 returns-2 c = let a = c .before .before .args in rw (le-ltb (a .a) (a .t1 .terms) (omega arith))

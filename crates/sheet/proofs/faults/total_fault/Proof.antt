@@ -1,9 +1,4 @@
 -- Each return is a case of `later`.
-use native.Mathlib.Omega.{arith}
-use mathlib.Core.Path.{_≡_, refl, ap, sym, _∙_}
-use borrow.Author.Tests.{lt-ltb, le-ltb, le-leb, lt-leb, eq-eqb, ne-eqb, ltb-true, ltb-false, leb-true, leb-false, eqb-true, eqb-false, not-true, not-false}
-use mathlib.Core.List.{List, [], _∷_}
-use Rattle.sheet.specs.Layout.{kindOf, field, name, expression, same, differ, total, all, within}
 use Rattle.sheet.proofs.Causes.{total-low, total-high, total-fine}
 use Rattle.sheet.proofs.faults.total_fault.Statement.{statement}
 use Rattle.sheet.proofs.faults.total_fault.Tie as tie

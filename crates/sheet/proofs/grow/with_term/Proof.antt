@@ -1,7 +1,7 @@
 -- An entry more in the arrays of the expressions.
 use Prim.Native.Nat.{ℕ}
 use native.Mathlib.Omega.{arith}
-use mathlib.Core.Path.{_≡_, refl, ap, sym, _∙_}
+use mathlib.Core.Path.{ap, sym, _∙_}
 use Rattle.sheet.specs.declared.Parsed.{Parsed}
 use Rattle.logic.specs.Sheet.{symbolAt}
 use lib.ListN.{getD}
@@ -34,7 +34,17 @@ add-out : tie.Need-add-out
 add-out c = search needs
 
 returns : tie.Need-returns
-returns c sh e there = let a = c .before .before .args in let h = holds (a .t1) sh e in let s = symbolAt sh (a .q .b0) .result in ap (λ (x : ℕ). moreTerm (a .t1) (a .q .b0) (a .q .b1) (a .q .b2) x) (ap (λ (i : ℕ). getD (a .t1 .result) i 0) (c .before .wide .ensures .0) ∙ h .result (a .q .b0) there) ∙ ap (λ (p : Parsed). moreTerm p (a .q .b0) (a .q .b1) (a .q .b2) s) e ∙ ap (λ (x : ℕ). moreTerm (packed sh) (a .q .b0) x (a .q .b2) s) (sym (args-first (a .q) (c .before .before .pre .1))) ∙ ap (λ (x : ℕ). moreTerm (packed sh) (a .q .b0) (first (argsOf (a .q))) x s) (sym (args-second (a .q) (c .before .before .pre .1))) ∙ term-packed sh (record { symbol = a .q .b0; args = argsOf (a .q) }) (omega arith)
+returns c sh e there =
+    let a = c .before .before .args in
+    let h = holds (a .t1) sh e in
+    let s = symbolAt sh (a .q .b0) .result in
+    ap (λ (x : ℕ). moreTerm (a .t1) (a .q .b0) (a .q .b1) (a .q .b2) x)
+    (ap (λ (i : ℕ). getD (a .t1 .result) i 0) (c .before .wide .ensures .0) ∙ h .result (a .q .b0) there)
+    ∙ ap (λ (p : Parsed). moreTerm p (a .q .b0) (a .q .b1) (a .q .b2) s) e
+    ∙ ap (λ (x : ℕ). moreTerm (packed sh) (a .q .b0) x (a .q .b2) s) (sym (args-first (a .q) (c .before .before .pre .1)))
+    ∙ ap (λ (x : ℕ). moreTerm (packed sh) (a .q .b0) (first (argsOf (a .q))) x s)
+    (sym (args-second (a .q) (c .before .before .pre .1)))
+    ∙ term-packed sh (record { symbol = a .q .b0; args = argsOf (a .q) }) (omega arith)
 
 pub with-term-spec : {M : Type 1} → statement M
 with-term-spec =
