@@ -1,5 +1,6 @@
 // The question "find": its answer by definition, demand 3, and the worked sheets (specs/, proofs/).
 use sheet::Parsed;
+use sheet::wide;
 ghost use mathlib.Core.Path.{_≡_};
 ghost use Prim.Native.Nat.{ℕ, _≤_, _<_};
 ghost use Rattle.logic.specs.Structure.{at, sumTo};
@@ -7,9 +8,10 @@ ghost use Rattle.sheet.specs.Packed.{view};
 ghost use lib.ListN.{length, take};
 ghost use Rattle.logic.specs.Sheet.{Sheet};
 ghost use Rattle.logic.specs.Order.{firsts};
-ghost use Rattle.tables.specs.Parts.{Packs};
-ghost use Rattle.finder.specs.Find.{fronted};
-ghost use Rattle.finder.specs.Fill.{Filled, Writable, AnswerWritten, answerBytes};
+ghost use Rattle.tables.specs.Layout.{extent};
+ghost use Rattle.tables.specs.Parts.{Packs, Limited};
+ghost use Rattle.finder.specs.Find.{ceilings, fronted, finding, codesAfter, tablesAfter};
+ghost use Rattle.finder.specs.Fill.{Filled, Writable, AnswerWritten, ReadFrom, Finds, answerBytes};
 
 // The answer to the question "find".
 pub enum Finding {
@@ -18,10 +20,52 @@ pub enum Finding {
     Refused { number: u8, place: usize },
 }
 
-fn wide(x: u8) -> usize
-    ensures { λ r. ⌜ (r ≡ x) × (r < 256) ⌝ }
+// Find: the first answer to a sheet. It gives the sum of the sizes, or the refusal's number and place; the codes of the expressions stand in
+// front of `codes` and the tables in front of `tables`, and every other byte of both is as it was.
+pub fn find(sheet: &[u8], codes: &mut [u8], tables: &mut [u8]) -> Finding
+    ensures result { λ r. ⌜ r ≡ finding (now (sheet .entry)) (length (now (codes .entry))) (length (now (tables .entry))) ⌝ }
+    ensures codes { λ _. ⌜ now (codes .exit) ≡ codesAfter (now (sheet .entry)) (now (codes .entry)) (now (tables .entry)) ⌝ }
+    ensures tables { λ _. ⌜ now (tables .exit) ≡ tablesAfter (now (sheet .entry)) (now (codes .entry)) (now (tables .entry)) ⌝ }
 {
-    x as usize
+    let parsing = sheet::parse(sheet);
+    let number = parsing.number;
+    let place = parsing.place;
+    if number != 0 {
+        return Finding::Refused { number, place };
+    }
+    let p = parsing.sheet;
+    find_parsed(p, codes, tables)
+}
+
+// Find, of a parsed sheet: cause 10, then cause 11, then the answer.
+fn find_parsed(p: Parsed, codes: &mut [u8], tables: &mut [u8]) -> Finding
+    requires { ⌜ ReadFrom p ⌝ }
+    ensures { λ r. ⌜ ((q : ReadFrom p) → Finds (q .bytes) (now (codes .entry)) (now (tables .entry)) (now (codes .exit)) (now (tables .exit)) r) ⌝ }
+{
+    if codes.len() < p.terms {
+        return Finding::Refused {
+            number: 10,
+            place: 0,
+        };
+    }
+    if tables.len() < longest(p) {
+        return Finding::Refused {
+            number: 10,
+            place: 0,
+        };
+    }
+    let s = sizes::least_sizes(p);
+    if !s.found {
+        return Finding::Refused {
+            number: 11,
+            place: 0,
+        };
+    }
+    let sizes = s.sizes;
+    let c = first::first_codes(p, sizes);
+    let chosen = c.codes;
+    let sum = write_answer(p, sizes, chosen, codes, tables);
+    Finding::Found { sum }
 }
 
 // The table of a symbol. The first term that reaches a cell decides; a cell that no term reaches holds the unforced code 0.
@@ -93,4 +137,15 @@ fn write_answer(
     bytes::copy(&sizes[..sorts], table_out);
     write_tables(table_out, p, sizes, codes);
     sum_of(sizes, sorts)
+}
+
+// The length of the tables with every size at its ceiling.
+fn longest(p: Parsed) -> usize
+    requires { ⌜ Limited p ⌝ }
+    ensures { λ r. ⌜ ((sh : Sheet) → Packs sh p → r ≡ extent sh (ceilings sh)) ⌝ }
+{
+    let highest = p.ceiling;
+    let offsets = tables::extents(p, highest);
+    let end = p.symbols;
+    offsets[end]
 }
