@@ -1,8 +1,8 @@
 -- The box of some ranges holds exactly the lists in range, the list that comes first standing first.
 use Prim.Native.Nat.{ℕ, zero, suc, _+_, _≤_, _<_}
-use mathlib.Core.Path.{_≡_, refl, ap, sym, _∙_}
+use mathlib.Core.Path.{_≡_, refl, ap}
 use mathlib.Core.Logic.{_⊎_, inl, inr}
-use mathlib.Core.List.{List, [], _∷_, _++_, map}
+use mathlib.Core.List.{List, [], _∷_, map}
 use lib.ListN.{length, getD}
 use native.Mathlib.Decide.{ℕ-discrete}
 use native.Mathlib.Omega.{arith}
@@ -35,7 +35,7 @@ pub sorted-run : (least many : ℕ) → Sorted (λ x y. x < y) (run least many)
 sorted-run least zero = tt
 sorted-run least (suc many) = (λ y m. run-mem (suc least) many y m .0, sorted-run (suc least) many)
 
-abbrev headed : ℕ → List ℕ → List ℕ
+abbrev pub headed : ℕ → List ℕ → List ℕ
 headed x l = x ∷ l
 
 mem-fronts : (x : ℕ) (l xs : List ℕ) (tails : List (List ℕ)) → Mem x xs → Mem l tails → Mem (x ∷ l) (fronts xs tails)

@@ -1,22 +1,24 @@
--- Demand 3 holds of every well-formed sheet. Structures and what fits go over into each other: a candidate that satisfies the sheet has
+-- Demand 3 holds of every accepted sheet. Structures and what fits go over into each other: a candidate that satisfies the sheet has
 -- sizes and codes that fit; what fits are the sizes and codes of the tables made from them, whatever the unreached cells hold.
-use Prim.Native.Nat.{ℕ, suc, _+_, _≤_, _<_}
-use mathlib.Core.Path.{_≡_, refl, ap, ap₂, sym, _∙_, subst}
+use Prim.Native.Nat.{ℕ, _≤_, _<_}
+use mathlib.Core.Path.{_≡_, refl, ap, sym, _∙_, subst}
 use mathlib.Core.Logic.{_⊎_, inl, inr}
-use mathlib.Core.List.{List, [], _∷_, map}
+use mathlib.Core.List.{List, _∷_, map}
 use mathlib.Core.Option.{Option, none, some, Option·getD}
 use lib.ListN.{length}
 use native.Mathlib.Omega.{arith}
-use Rattle.logic.specs.Sheet.{Sheet, Symbol, Term, symbolAt, termAt, sortAt}
+use Rattle.logic.specs.Sheet.{Sheet, symbolAt, termAt}
 use Rattle.logic.specs.WellFormed.{WellFormed}
-use Rattle.logic.specs.Structure.{Structure, InSorts, Interprets, Bounded, Candidate, Satisfies, codes, code, at, sumTo}
+use Rattle.logic.specs.Structure.{Structure, InSorts, Candidate, Satisfies, codes, code, at, sumTo}
 use Rattle.logic.specs.Order.{firsts, Before, sizesOf, sumOf, Earlier}
-use Rattle.logic.proofs.Meaning.{code-below, code-congruent, codes-own, length-codes, firsts-at, firsts-same}
-use Rattle.finder.specs.Answer.{Entry, Cell, cellOf, reachedCells, cellAt, structureWith, structureOf, unforced, answer, sum}
-use Rattle.finder.specs.Demand.{Answers, Demand, Hopeless, InTables}
-use Rattle.finder.proofs.Lists.{Mem, found-or-none}
-use Rattle.finder.proofs.Solving.{Solution, ReachedBy, reached-by, Kept, kept, not-kept, cell-mem, cons-head, cons-tail, solution-same}
-use Rattle.finder.proofs.Listing.{Fits, entryOf, Chosen, chosen, Ahead, Sooner, sooner-asym, none-fits, nothing-fits, sum-firsts}
+use Rattle.logic.proofs.Meaning.{map-each, code-below, code-congruent, codes-own, length-codes, firsts-at, firsts-same}
+use Rattle.sheet.specs.Layout.{accepted, reading}
+use Rattle.sheet.proofs.Answers.{accepted-well-formed}
+use Rattle.finder.specs.Answer.{Entry, entryOf, cellOf, reachedCells, cellAt, structureWith, structureOf, unforced, answer, sum}
+use Rattle.finder.specs.Demand.{Answers, Demand, Hopeless, Unreached, InTables}
+use Rattle.finder.proofs.Lists.{found-or-none}
+use Rattle.finder.proofs.Solving.{TermOf, term-of, own-cell, solution-same}
+use Rattle.finder.proofs.Listing.{Fits, Chosen, chosen, Ahead, Sooner, sooner-asym, none-fits, sum-firsts}
 
 -- a candidate that satisfies the sheet fits
 pub structure-fits : (sh : Sheet) → WellFormed sh → (M : Structure) → Candidate M sh → Satisfies M sh → Fits sh (M .size) (code M sh)
@@ -34,16 +36,11 @@ module _ (sh : Sheet) (w : WellFormed sh) (e : Entry) (f : Fits sh (at (e .sizes
 
   -- a term's cell holds its code
   held : (i : ℕ) → i < length (sh .terms) → (o : Option ℕ) → cellAt (cellOf (at (e .codes)) i (termAt sh i) .key) (reachedCells sh (e .codes)) ≡ o → (d : ℕ) → at (e .codes) i ≡ Option·getD o d
-  held i h none q d =
-      absurd (not-kept (cellOf (at (e .codes)) i (termAt sh i) .key) (reachedCells sh (e .codes)) q (cellOf (at (e .codes)) i (termAt sh i)) (cell-mem (at (e .codes)) 0 (sh .terms) i i h (omega arith)) refl)
+  held i h none q d = absurd (own-cell sh (at (e .codes)) i h q)
   held i h (some v) q d =
-      let k : Kept (cellOf (at (e .codes)) i (termAt sh i) .key) (reachedCells sh (e .codes)) v = kept (cellOf (at (e .codes)) i (termAt sh i) .key) (reachedCells sh (e .codes)) v q in
-      let r : ReachedBy sh (at (e .codes)) (k .cell) = reached-by sh (at (e .codes)) (k .cell) (k .member) in
-      let keys : cellOf (at (e .codes)) i (termAt sh i) .key ≡ cellOf (at (e .codes)) (r .number) (termAt sh (r .number)) .key =
-      sym (k .keyed) ∙ ap (λ (x : Cell). x .key) (r .is) in
-      f .solution .congruent i (r .number) h (r .there) (cons-head _ _ _ _ keys) (cons-tail _ _ _ _ keys)
-      ∙ sym (ap (λ (x : Cell). x .code) (r .is))
-      ∙ k .coded
+      let t : TermOf sh (at (e .codes)) (termAt sh i .symbol) (map (at (e .codes)) (termAt sh i .args)) v =
+      term-of sh (at (e .codes)) (termAt sh i .symbol) (map (at (e .codes)) (termAt sh i .args)) v q in
+      f .solution .congruent i (t .number) h (t .there) (sym (t .symbol)) (sym (t .args)) ∙ t .code
 
   pub made-code : (i : ℕ) → i < length (sh .terms) → code made sh i ≡ at (e .codes) i
   made-code =
@@ -54,13 +51,21 @@ module _ (sh : Sheet) (w : WellFormed sh) (e : Entry) (f : Fits sh (at (e .sizes
   below : InTables sh (at (e .sizes)) u → (g : ℕ) → g < length (sh .symbols) → (cs : List ℕ) → InSorts (at (e .sizes)) (symbolAt sh g .params) cs → (o : Option ℕ) → cellAt (g ∷ cs) (reachedCells sh (e .codes)) ≡ o → Option·getD o (u g cs) < at (e .sizes) (symbolAt sh g .result)
   below t g h cs l none q = t g h cs l
   below t g h cs l (some v) q =
-      let k : Kept (g ∷ cs) (reachedCells sh (e .codes)) v = kept (g ∷ cs) (reachedCells sh (e .codes)) v q in
-      let r : ReachedBy sh (at (e .codes)) (k .cell) = reached-by sh (at (e .codes)) (k .cell) (k .member) in
-      let keys : cellOf (at (e .codes)) (r .number) (termAt sh (r .number)) .key ≡ g ∷ cs = sym (ap (λ (x : Cell). x .key) (r .is)) ∙ k .keyed in
-      let same : termAt sh (r .number) .symbol ≡ g = cons-head _ _ _ _ keys in
-      let code-v : at (e .codes) (r .number) ≡ v = sym (ap (λ (x : Cell). x .code) (r .is)) ∙ k .coded in
-      subst (λ (x : ℕ). x < at (e .sizes) (symbolAt sh g .result)) code-v
-      (subst (λ (j : ℕ). at (e .codes) (r .number) < at (e .sizes) (symbolAt sh j .result)) same (f .range (r .number) (r .there)))
+      let r : TermOf sh (at (e .codes)) g cs v = term-of sh (at (e .codes)) g cs v q in
+      subst (λ (x : ℕ). x < at (e .sizes) (symbolAt sh g .result)) (r .code)
+      (subst (λ (j : ℕ). at (e .codes) (r .number) < at (e .sizes) (symbolAt sh j .result)) (r .symbol) (f .range (r .number) (r .there)))
+
+  -- a cell that no term reaches holds what u says
+  pub made-unreached : (g : ℕ) (xs : List ℕ) → Unreached sh made g xs → made .table g xs ≡ u g xs
+  made-unreached g xs h = step (cellAt (g ∷ xs) (reachedCells sh (e .codes))) refl
+    where
+      step : (o : Option ℕ) → cellAt (g ∷ xs) (reachedCells sh (e .codes)) ≡ o → Option·getD o (u g xs) ≡ u g xs
+      step none q = refl
+      step (some v) q =
+          let r : TermOf sh (at (e .codes)) g xs v = term-of sh (at (e .codes)) g xs v q in
+          let args : map (code made sh) (termAt sh (r .number) .args) ≡ map (at (e .codes)) (termAt sh (r .number) .args) =
+          map-each (code made sh) (at (e .codes)) (λ a. a < r .number) (λ a l. made-code a (omega (arith, r .there))) (termAt sh (r .number) .args) (w .args (r .number) (r .there)) in
+          absurd (h (r .number) (r .there) (r .symbol) (args ∙ r .args))
 
   pub made-candidate : InTables sh (at (e .sizes)) u → Candidate made sh
   made-candidate t =
@@ -124,7 +129,6 @@ unforced-in-tables : (sh : Sheet) (e : Entry) → ((s : ℕ) → s < length (sh 
 unfolding unforced
 unforced-in-tables sh e h w f l cs i = h (symbolAt sh f .result) (w .result f l)
 
--- THEOREM: demand 3
 pub demand : (sh : Sheet) → WellFormed sh → Demand sh
 demand sh w =
     record {
@@ -133,6 +137,7 @@ demand sh w =
         λ h. elim (found-or-none (answer sh)) [ inl q ↦ q | inr r ↦ absurd (hope h (r .0) (r .1)) ],
       );
       finds = answered;
+      unreached = λ e q. made-unreached sh w e (chosen sh w e q .fits) (unforced sh e);
     }
   where
     answered : (e : Entry) → answer sh ≡ some e → Answers sh e (structureOf sh e)
@@ -143,3 +148,7 @@ demand sh w =
 
     hope : Hopeless sh → (e : Entry) → answer sh ≡ some e → ⊥
     hope h e q = let a : Answers sh e (structureOf sh e) = answered e q in h (structureOf sh e) (a .candidate) (a .satisfies)
+
+-- THEOREM: demand 3 of every accepted sheet
+pub accepted-demand : (s : List ℕ) (sh : Sheet) → reading s ≡ accepted sh → Demand sh
+accepted-demand s sh q = demand sh (accepted-well-formed s sh q)

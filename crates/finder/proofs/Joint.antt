@@ -3,23 +3,27 @@
 use Prim.Native.Nat.{ℕ, zero, suc, _≤_, _<_}
 use mathlib.Core.Path.{_≡_, refl, ap, ap₂, sym, _∙_, subst}
 use mathlib.Core.Bool.{Bool, true, false}
-use mathlib.Core.Logic.{_⊎_, inl, inr}
+use mathlib.Core.Logic.{inl, inr}
 use mathlib.Core.List.{List, [], _∷_, map}
-use mathlib.Core.Option.{Option, none, some}
+use mathlib.Core.Option.{none, some}
 use lib.ListN.{length, getD, length-map, List·getD-map, List·getD-eq-default}
 use native.Mathlib.Omega.{arith}
-use Rattle.logic.specs.Sheet.{Sheet, Bound, Symbol, Term, Literal, boundAt, symbolAt, termAt, literalAt, sortAt}
-use Rattle.logic.specs.WellFormed.{WellFormed, Each, Within}
-use Rattle.logic.specs.Structure.{at, sumTo, Bounded, Agree, Holds}
+use Rattle.logic.specs.Sheet.{Sheet, symbolAt, termAt, literalAt, sortAt}
+use Rattle.logic.specs.WellFormed.{WellFormed, Each}
+use Rattle.logic.specs.Structure.{at, sumTo, Bounded, Agree}
 use Rattle.logic.specs.Order.{Before, firsts, NotAfter}
 use Rattle.logic.specs.Problem.{Problem, WellSorted, Allowed, Consistent, Unsatisfiable, Least}
 use Rattle.logic.proofs.Meaning.{length-firsts, at-firsts, firsts-same, sumTo-same}
 use Rattle.logic.proofs.OrderLaws.{not-after}
 use Rattle.sheet.specs.Packed.{first, second, bit}
 use Rattle.sheet.specs.Views.{Views}
-use Rattle.finder.specs.Answer.{Entry, answer, sum}
-use Rattle.finder.proofs.Solving.{Solution, solution-same}
-use Rattle.finder.proofs.Listing.{Fits, entryOf, Sooner, Ahead, sum-firsts, nothing-fits, soonest}
+use Rattle.sheet.specs.Layout.{accepted, reading}
+use Rattle.tables.specs.Layout.{extent}
+use Rattle.finder.specs.Answer.{entryOf, answer, sum}
+use Rattle.finder.specs.Find.{turnedDown, answered, ceilings, outcome}
+use Rattle.finder.proofs.Solving.{solution-same}
+use Rattle.finder.proofs.Outcomes.{outcome-long}
+use Rattle.finder.proofs.Listing.{Fits, Sooner, sum-firsts, nothing-fits, soonest}
 
 -- Arguments by place: the one at place k, 255 where it is missing.
 abbrev argument : List ℕ → ℕ → ℕ
@@ -241,3 +245,11 @@ module _ (sh : Sheet) (P : Problem) (w : WellFormed sh) (v : Views sh P) where
   -- THE JOINT: the least sizes and codes are the answer
   pub least-answer : (size c : ℕ → ℕ) → Least P size c → answer sh ≡ some (entryOf sh size c)
   least-answer size c l = soonest sh w size c (consistent-fits size c (l .allowed) (l .consistent)) (none-sooner size c l)
+
+  -- what becomes of a call with buffers that suffice, by what the search shows
+  module _ (s : List ℕ) (nc nt : ℕ) (reads : reading s ≡ accepted sh) (codesFit : length (sh .terms) ≤ nc) (tablesFit : extent sh (ceilings sh) ≤ nt) where
+    pub outcome-none : Unsatisfiable P → outcome s nc nt ≡ turnedDown 11 0
+    outcome-none h = outcome-long s sh none nc nt reads codesFit tablesFit (unsatisfiable-none h)
+
+    pub outcome-least : (size c : ℕ → ℕ) → Least P size c → outcome s nc nt ≡ answered sh (entryOf sh size c)
+    outcome-least size c l = outcome-long s sh (some (entryOf sh size c)) nc nt reads codesFit tablesFit (least-answer size c l)

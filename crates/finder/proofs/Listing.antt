@@ -1,23 +1,23 @@
 -- The listing holds exactly the sizes in bounds with the codes in range, the earliest first; so the answer is the earliest that solves the
 -- sheet, and there is none exactly when nothing does.
-use Prim.Native.Nat.{ℕ, suc, _+_, _-_, _≤_, _<_}
+use Prim.Native.Nat.{ℕ, suc, _+_, _≤_, _<_}
 use mathlib.Core.Path.{_≡_, refl, ap, sym, _∙_, subst}
 use mathlib.Core.Bool.{Bool, true}
 use mathlib.Core.Logic.{_⊎_, inl, inr}
-use mathlib.Core.List.{List, [], _∷_, map}
+use mathlib.Core.List.{List, []}
 use mathlib.Core.Option.{Option, none, some}
-use lib.ListN.{length, getD}
+use lib.ListN.{length}
 use lib.Dec.{eqb}
 use native.Mathlib.Omega.{arith}
 use borrow.Author.Tests.{eqb-true, eq-eqb}
-use Rattle.logic.specs.Sheet.{Sheet, Bound, Symbol, Term, symbolAt, termAt, sortAt, boundAt}
+use Rattle.logic.specs.Sheet.{Sheet, Bound, Term, termAt, sortAt, boundAt}
 use Rattle.logic.specs.WellFormed.{WellFormed}
 use Rattle.logic.specs.Structure.{at, sumTo, Bounded}
 use Rattle.logic.specs.Order.{Before, firsts}
-use Rattle.logic.specs.Box.{Range, run, box}
+use Rattle.logic.specs.Box.{run, box}
 use Rattle.logic.proofs.Meaning.{length-firsts, at-firsts, firsts-at, sumTo-same}
 use Rattle.logic.proofs.OrderLaws.{before-asym, before-irrefl}
-use Rattle.finder.specs.Answer.{Entry, sum, each, sizeRanges, codeRanges, sizesOfSum, entriesAt, listing, solves, answer}
+use Rattle.finder.specs.Answer.{Entry, entryOf, sum, each, sizeRange, codeRange, sizeRanges, codeRanges, sizesOfSum, entriesAt, listing, solves, answer}
 use Rattle.finder.proofs.Lists
 use Rattle.finder.proofs.Lists.{Mem, Sorted, First}
 use Rattle.finder.proofs.Boxes.{InBox, InRange, mem-run, run-mem, sorted-run, box-mem, mem-box, sorted-box, box-long, box-at, at-box}
@@ -28,9 +28,6 @@ pub record Fits (sh : Sheet) (size c : ℕ → ℕ) : Type 0 where
   pub bounded : Bounded sh size
   pub range : (i : ℕ) → i < length (sh .terms) → c i < size (sortAt sh i)
   pub solution : Solution sh c
-
-abbrev pub entryOf : Sheet → (ℕ → ℕ) → (ℕ → ℕ) → Entry
-entryOf sh size c = record { sizes = firsts (length (sh .bounds)) size; codes = firsts (length (sh .terms)) c }
 
 -- an entry stands in the listing
 pub record Listed (sh : Sheet) (e : Entry) : Type 0 where
@@ -130,12 +127,6 @@ noBound = record { floor = 0; ceiling = 0 }
 
 abbrev noTerm : Term
 noTerm = record { symbol = 0; args = [] }
-
-abbrev sizeRange : Bound → Range
-sizeRange b = record { least = b .floor; many = suc (b .ceiling) - b .floor }
-
-abbrev codeRange : Sheet → List ℕ → Term → Range
-codeRange sh sizes t = record { least = 0; many = at sizes (symbolAt sh (t .symbol) .result) }
 
 fits-listed : (sh : Sheet) → WellFormed sh → (size c : ℕ → ℕ) → Fits sh size c → Listed sh (entryOf sh size c)
 fits-listed sh w size c f =

@@ -4,7 +4,7 @@ use mathlib.Core.Path.{_≡_, ap, ap₂, _∙_}
 use mathlib.Core.Bool.{Bool, true, false, _||_, or-true}
 use mathlib.Core.Logic.{_⊎_, inl, inr}
 use mathlib.Core.List.{List}
-use mathlib.Core.Option.{Option, none, some}
+use mathlib.Core.Option.{Option}
 use lib.ListN.{length}
 use lib.Dec.{ltb}
 use borrow.Author.Tests.{le-ltb, lt-ltb}
@@ -12,7 +12,7 @@ use Rattle.logic.specs.Sheet.{Sheet}
 use Rattle.sheet.specs.Layout.{Reading, accepted, refused, reading}
 use Rattle.tables.specs.Layout.{extent}
 use Rattle.finder.specs.Answer.{Entry, answer}
-use Rattle.finder.specs.Find.{Outcome, turnedDown, answered, ceilings, short, answering, consider, outcome}
+use Rattle.finder.specs.Find.{Outcome, turnedDown, ceilings, short, answering, consider, outcome}
 
 abbrev branch : Sheet → Bool → Outcome
 branch sh b = elim b [ true ↦ turnedDown 10 0 | false ↦ answering sh (answer sh) ]

@@ -1,29 +1,24 @@
 -- What `solves` tests, place by place; and what the tables made from codes hold.
 use Prim.Native.Nat.{ℕ, zero, suc, _+_, _<_}
 use mathlib.Core.Path.{_≡_, refl, ap, ap₂, sym, _∙_, subst}
-use mathlib.Core.Bool.{Bool, true, false, not, _&&_, _||_, false≢true}
-use mathlib.Core.Logic.{_⊎_, inl, inr}
+use mathlib.Core.Bool.{Bool, true, false, not, _||_, false≢true}
+use mathlib.Core.Logic.{inl, inr}
 use mathlib.Core.List.{List, [], _∷_, map}
-use mathlib.Core.Option.{Option, none, some}
+use mathlib.Core.Option.{none, some}
 use lib.ListN.{length, getD}
 use lib.Dec.{eqb}
 use native.Mathlib.Omega.{arith}
-use borrow.Author.Tests.{eqb-true, eqb-false, eq-eqb, ne-eqb, not-true}
+use borrow.Author.Tests.{eqb-true, eq-eqb}
 use Rattle.logic.specs.Sheet.{Sheet, Term, Literal, termAt, literalAt}
-use Rattle.logic.specs.WellFormed.{WellFormed, Each}
-use Rattle.logic.specs.Structure.{at, Agree, Holds}
+use Rattle.logic.specs.WellFormed.{WellFormed}
+use Rattle.logic.specs.Structure.{at, Holds}
 use Rattle.logic.proofs.Meaning.{map-each}
+use Rattle.logic.proofs.Codes.{holds-same}
 use Rattle.sheet.specs.Layout.{if, sameList}
-use Rattle.finder.specs.Answer.{Cell, cellOf, cellsFrom, reachedCells, agrees, functional, holds, allHold, solves, cellAt}
+use Rattle.tables.specs.Judge.{holds}
+use Rattle.tables.proofs.Tests.{decided, both, and-both, holds-true, holds-false}
+use Rattle.finder.specs.Answer.{Cell, cellOf, cellsFrom, reachedCells, agrees, functional, allHold, solves, cellAt}
 use Rattle.finder.proofs.Lists.{Mem}
-
-both : (a b : Bool) → (a && b) ≡ true → (a ≡ true) × (b ≡ true)
-both true b e = (refl, e)
-both false b e = absurd (false≢true e)
-
-and-both : (a b : Bool) → a ≡ true → b ≡ true → (a && b) ≡ true
-and-both true b e f = f
-and-both false b e f = absurd (false≢true e)
 
 same-list : (xs ys : List ℕ) → sameList xs ys ≡ true → xs ≡ ys
 same-list [] [] e = refl
@@ -71,7 +66,7 @@ all-agrees x (z ∷ xs) h =
     (agreeing (x .key) (z .key) (x .code) (z .code) (h z (inl refl)))
     (all-agrees x xs (λ y m. h y (inr m)))
 
-pub functional-all : (xs : List Cell) → functional xs ≡ true → (x y : Cell) → Mem x xs → Mem y xs → Agreed x y
+functional-all : (xs : List Cell) → functional xs ≡ true → (x y : Cell) → Mem x xs → Mem y xs → Agreed x y
 functional-all [] e x y m n = absurd m
 functional-all (z ∷ xs) e x y m n = step (both (agrees z xs) (functional xs) e) m n (functional-all xs)
   where
@@ -90,10 +85,10 @@ all-functional (z ∷ xs) h =
     (all-functional xs (λ x y m n. h x y (inr m) (inr n)))
 
 -- the cells that the terms reach, by the terms' numbers
-abbrev pub entryAt : List Term → ℕ → Term
+abbrev entryAt : List Term → ℕ → Term
 entryAt ts k = getD ts k (record { symbol = 0; args = [] })
 
-pub cell-mem : (c : ℕ → ℕ) (i : ℕ) (ts : List Term) (k n : ℕ) → k < length ts → n ≡ i + k → Mem (cellOf c n (entryAt ts k)) (cellsFrom c i ts)
+cell-mem : (c : ℕ → ℕ) (i : ℕ) (ts : List Term) (k n : ℕ) → k < length ts → n ≡ i + k → Mem (cellOf c n (entryAt ts k)) (cellsFrom c i ts)
 cell-mem c i [] k n h e = absurd (omega arith)
 cell-mem c i (t ∷ ts) zero n h e = let m : n ≡ i = omega arith in inl (ap (λ (j : ℕ). cellOf c j t) m)
 cell-mem c i (t ∷ ts) (suc k) n h e = inr (cell-mem c (suc i) ts k n (omega arith) (omega arith))
@@ -118,27 +113,22 @@ pub record Solution (sh : Sheet) (c : ℕ → ℕ) : Type 0 where
   pub congruent : (i j : ℕ) → i < length (sh .terms) → j < length (sh .terms) → termAt sh i .symbol ≡ termAt sh j .symbol → map c (termAt sh i .args) ≡ map c (termAt sh j .args) → c i ≡ c j
   pub meets : (k : ℕ) → k < length (sh .literals) → Holds c (literalAt sh k)
 
-agree-is : (b : Bool) (x y : ℕ) → if b (eqb x y) (not (eqb x y)) ≡ true → Agree b x y
-agree-is true x y e = eqb-true x y e
-agree-is false x y e = eqb-false x y (not-true (eqb x y) e)
-
-is-agree : (b : Bool) (x y : ℕ) → Agree b x y → if b (eqb x y) (not (eqb x y)) ≡ true
-is-agree true x y h = eq-eqb x y h
-is-agree false x y h = ap not (ne-eqb x y h)
+hold-true : (c : ℕ → ℕ) (l : Literal) → Holds c l → holds c l ≡ true
+hold-true c l h = elim (decided (holds c l)) [ inl e ↦ e | inr e ↦ absurd (holds-false c l e h) ]
 
 abbrev literalIn : List Literal → ℕ → Literal
 literalIn ls k = getD ls k (record { equal = true; left = 0; right = 0 })
 
 all-hold : (c : ℕ → ℕ) (ls : List Literal) → allHold c ls ≡ true → (k : ℕ) → k < length ls → Holds c (literalIn ls k)
 all-hold c [] e k h = absurd (omega arith)
-all-hold c (l ∷ ls) e zero h = agree-is (l .equal) (c (l .left)) (c (l .right)) (both (holds c l) (allHold c ls) e .0)
+all-hold c (l ∷ ls) e zero h = holds-true c l (both (holds c l) (allHold c ls) e .0)
 all-hold c (l ∷ ls) e (suc k) h = all-hold c ls (both (holds c l) (allHold c ls) e .1) k (omega arith)
 
 hold-all : (c : ℕ → ℕ) (ls : List Literal) → ((k : ℕ) → k < length ls → Holds c (literalIn ls k)) → allHold c ls ≡ true
 hold-all c [] h = refl
 hold-all c (l ∷ ls) h =
     and-both (holds c l) (allHold c ls)
-    (is-agree (l .equal) (c (l .left)) (c (l .right)) (h 0 (omega arith)))
+    (hold-true c l (h 0 (omega arith)))
     (hold-all c ls (λ k b. h (suc k) (omega arith)))
 
 pub solved : (sh : Sheet) (cs : List ℕ) → solves sh cs ≡ true → Solution sh (at cs)
@@ -155,19 +145,19 @@ solved sh cs e =
       meets = all-hold (at cs) (sh .literals) (p .1);
     }
 
-pub cons-head : (x y : ℕ) (xs ys : List ℕ) → x ∷ xs ≡ y ∷ ys → x ≡ y
+cons-head : (x y : ℕ) (xs ys : List ℕ) → x ∷ xs ≡ y ∷ ys → x ≡ y
 cons-head x y xs ys e = cc
 
-pub cons-tail : (x y : ℕ) (xs ys : List ℕ) → x ∷ xs ≡ y ∷ ys → xs ≡ ys
+cons-tail : (x y : ℕ) (xs ys : List ℕ) → x ∷ xs ≡ y ∷ ys → xs ≡ ys
 cons-tail x y xs ys e = cc
 
 -- the term that reaches a cell of the sheet
-pub record ReachedBy (sh : Sheet) (c : ℕ → ℕ) (x : Cell) : Type 0 where
-  pub number : ℕ
-  pub there : number < length (sh .terms)
-  pub is : x ≡ cellOf c number (termAt sh number)
+record ReachedBy (sh : Sheet) (c : ℕ → ℕ) (x : Cell) : Type 0 where
+  number : ℕ
+  there : number < length (sh .terms)
+  is : x ≡ cellOf c number (termAt sh number)
 
-pub reached-by : (sh : Sheet) (c : ℕ → ℕ) (x : Cell) → Mem x (cellsFrom c 0 (sh .terms)) → ReachedBy sh c x
+reached-by : (sh : Sheet) (c : ℕ → ℕ) (x : Cell) → Mem x (cellsFrom c 0 (sh .terms)) → ReachedBy sh c x
 reached-by sh c x m =
     let r : Reaching c 0 (sh .terms) x = mem-cell c 0 (sh .terms) x m in
     let e : r .number ≡ r .place = omega arith in
@@ -201,24 +191,20 @@ solution-same sh w c d same s =
       congruent = λ i j h k p q.
           sym (same i h) ∙ s .congruent i j h k p (args i h ∙ q ∙ sym (args j k)) ∙ same j k;
       meets = λ k h.
-          held (literalAt sh k .equal) (c (literalAt sh k .left)) (c (literalAt sh k .right))
-          (same (literalAt sh k .left) (w .left k h)) (same (literalAt sh k .right) (w .right k h)) (s .meets k h);
+          holds-same c d (literalAt sh k) (same (literalAt sh k .left) (w .left k h)) (same (literalAt sh k .right) (w .right k h)) (s .meets k h);
     }
   where
     args : (i : ℕ) → i < length (sh .terms) → map c (termAt sh i .args) ≡ map d (termAt sh i .args)
     args i h = map-each c d (λ a. a < i) (λ a l. same a (omega arith)) (termAt sh i .args) (w .args i h)
 
-    held : (b : Bool) (x y : ℕ) {x′ y′ : ℕ} → x ≡ x′ → y ≡ y′ → Agree b x y → Agree b x′ y′
-    held b x y p q a = rw (← p, ← q) a
-
 -- What tables made from codes hold: looking a key up among cells gives the code of a cell with this key, or nothing where there is none.
-pub record Kept (key : List ℕ) (xs : List Cell) (v : ℕ) : Type 0 where
-  pub cell : Cell
-  pub member : Mem cell xs
-  pub keyed : cell .key ≡ key
-  pub coded : cell .code ≡ v
+record Kept (key : List ℕ) (xs : List Cell) (v : ℕ) : Type 0 where
+  cell : Cell
+  member : Mem cell xs
+  keyed : cell .key ≡ key
+  coded : cell .code ≡ v
 
-pub kept : (key : List ℕ) (xs : List Cell) (v : ℕ) → cellAt key xs ≡ some v → Kept key xs v
+kept : (key : List ℕ) (xs : List Cell) (v : ℕ) → cellAt key xs ≡ some v → Kept key xs v
 kept key [] v e = let z : _≡_ {A = ℕ} 0 1 = cc in absurd (omega arith)
 kept key (x ∷ xs) v e = step (sameList (x .key) key) refl e (kept key xs v)
   where
@@ -228,7 +214,7 @@ kept key (x ∷ xs) v e = step (sameList (x .key) key) refl e (kept key xs v)
         let g : Kept key xs v = r f in
         record { cell = g .cell; member = inr (g .member); keyed = g .keyed; coded = g .coded }
 
-pub not-kept : (key : List ℕ) (xs : List Cell) → cellAt key xs ≡ none → (x : Cell) → Mem x xs → x .key ≡ key → ⊥
+not-kept : (key : List ℕ) (xs : List Cell) → cellAt key xs ≡ none → (x : Cell) → Mem x xs → x .key ≡ key → ⊥
 not-kept key [] e x m k = m
 not-kept key (y ∷ xs) e x m k = step (sameList (y .key) key) refl e m (not-kept key xs)
   where
@@ -237,3 +223,29 @@ not-kept key (y ∷ xs) e x m k = step (sameList (y .key) key) refl e m (not-kep
     step false t f (inl q) r =
         false≢true (sym t ∙ subst (λ (l : List ℕ). sameList (y .key) l ≡ true) (sym (ap (λ (z : Cell). z .key) q) ∙ k) (list-same (y .key)))
     step false t f (inr q) r = r f x q k
+
+-- the term whose code a table holds at the codes xs
+pub record TermOf (sh : Sheet) (c : ℕ → ℕ) (g : ℕ) (xs : List ℕ) (v : ℕ) : Type 0 where
+  pub number : ℕ
+  pub there : number < length (sh .terms)
+  pub symbol : termAt sh number .symbol ≡ g
+  pub args : map c (termAt sh number .args) ≡ xs
+  pub code : c number ≡ v
+
+pub term-of : (sh : Sheet) (c : ℕ → ℕ) (g : ℕ) (xs : List ℕ) (v : ℕ) → cellAt (g ∷ xs) (cellsFrom c 0 (sh .terms)) ≡ some v → TermOf sh c g xs v
+term-of sh c g xs v e =
+    let k : Kept (g ∷ xs) (cellsFrom c 0 (sh .terms)) v = kept (g ∷ xs) (cellsFrom c 0 (sh .terms)) v e in
+    let r : ReachedBy sh c (k .cell) = reached-by sh c (k .cell) (k .member) in
+    let keys : cellOf c (r .number) (termAt sh (r .number)) .key ≡ g ∷ xs = sym (ap (λ (x : Cell). x .key) (r .is)) ∙ k .keyed in
+    record {
+      number = r .number;
+      there = r .there;
+      symbol = cons-head _ _ _ _ keys;
+      args = cons-tail _ _ _ _ keys;
+      code = sym (ap (λ (x : Cell). x .code) (r .is)) ∙ k .coded;
+    }
+
+-- a term's own cell is not empty
+pub own-cell : (sh : Sheet) (c : ℕ → ℕ) (i : ℕ) → i < length (sh .terms) → cellAt (cellOf c i (termAt sh i) .key) (cellsFrom c 0 (sh .terms)) ≡ none → ⊥
+own-cell sh c i h e =
+    not-kept (cellOf c i (termAt sh i) .key) (cellsFrom c 0 (sh .terms)) e (cellOf c i (termAt sh i)) (cell-mem c 0 (sh .terms) i i h (omega arith)) refl

@@ -8,15 +8,16 @@ use mathlib.Core.Option.{Option, none}
 use lib.ListN.{length}
 use lib.Dec.{lit<, lit≤}
 use native.Mathlib.Omega.{arith}
-use Rattle.logic.specs.Sheet.{Sheet, Bound, Symbol, Term, Literal}
+use Rattle.logic.specs.Sheet.{Sheet, Bound, Symbol}
 use Rattle.sheet.specs.Layout.{Reading, accepted, refused, empty, reading, readFrom, cause}
 use Rattle.tables.specs.Layout.{extent}
 use Rattle.finder.specs.Answer.{Entry, answer, solves, unforced}
-use Rattle.finder.specs.Find.{Outcome, ceilings, answering, outcome, finds, finding, fronted, codesIn, codesAfter, tablesIn, tablesAfter}
-use Rattle.finder.specs.Worked.{Row, row1, row2, row3, row4, row5, row6, row7, row8, row9, row10, row11, row12, row13, row14, printed, rows, Shown, Shows, All, mostCodes, mostTables}
+use Rattle.finder.specs.Find.{ceilings, answering, finds, fronted, codesIn, tablesIn}
+use Rattle.finder.specs.Worked.{Row, row1, row2, row3, row4, row5, row6, row7, row8, row9, row10, row11, row12, row13, row14, printed, rows, Shows, All, mostCodes, mostTables}
 use Rattle.finder.proofs.Solving.{Solution}
 use Rattle.finder.proofs.Listing.{unsolvable}
 use Rattle.finder.proofs.Outcomes.{outcome-long}
+use Rattle.finder.proofs.Buffers.{Exit, exit}
 
 -- the sheet that bytes define
 abbrev sheetIn : Reading → Sheet
@@ -37,15 +38,11 @@ record Computed (r : Row) (a : Option Entry) : Type 0 where
   tables : (ts : List ℕ) → tablesIn (answering (sheetOf r) a) ts ≡ fronted (r .tables) ts
 
 shown : (r : Row) (a : Option Entry) → Computed r a → Shows r
-unfolding finding codesAfter tablesAfter
 shown r a k cs ts h l =
-    let o : outcome (r .sheet) (length cs) (length ts) ≡ answering (sheetOf r) a =
-    outcome-long (r .sheet) (sheetOf r) a (length cs) (length ts) (k .reads) (omega (arith, k .codesFit)) (omega (arith, k .tablesFit)) (k .answers) in
-    record {
-      result = ap finds o ∙ k .result;
-      codes = ap (λ (x : Outcome). codesIn x cs) o ∙ k .codes cs;
-      tables = ap (λ (x : Outcome). tablesIn x ts) o ∙ k .tables ts;
-    }
+    let x : Exit (r .sheet) cs ts (answering (sheetOf r) a) =
+    exit (r .sheet) cs ts (answering (sheetOf r) a)
+    (outcome-long (r .sheet) (sheetOf r) a (length cs) (length ts) (k .reads) (omega (arith, k .codesFit)) (omega (arith, k .tablesFit)) (k .answers)) in
+    record { result = x .result ∙ k .result; codes = x .codes ∙ k .codes cs; tables = x .tables ∙ k .tables ts }
 
 -- x same f applied 3 times and 5 times: then x is the same as f(x)
 abbrev threeAndFive : List Bound → List Symbol → ℕ → Sheet

@@ -1,17 +1,20 @@
 -- The answer to a sheet, by definition: the first entry of a plain listing that solves the sheet (document 01, "Which answer"), and
 -- the structure that it stands for. How the answer is found plays no part here.
 use Prim.Native.Nat.{ℕ, suc, _-_}
-use mathlib.Core.Bool.{Bool, true, false, not, _&&_, _||_}
+use mathlib.Core.Bool.{Bool, true, not, _&&_, _||_}
 use mathlib.Core.List.{List, [], _∷_, _++_, map}
 use mathlib.Core.Option.{Option, none, some, Option·getD}
 use lib.ListN.{length}
 use lib.Dec.{eqb}
-use Rattle.logic.specs.Sheet.{Sheet, Bound, Symbol, Term, Literal, symbolAt}
+use Rattle.logic.specs.Sheet.{Sheet, Bound, Term, Literal, symbolAt}
 use Rattle.logic.specs.Structure.{Structure, at, sumTo}
+use Rattle.logic.specs.Order.{firsts}
 use Rattle.logic.specs.Box.{Range, run, box}
 use Rattle.sheet.specs.Layout.{if, sameList}
+use Rattle.tables.specs.Judge.{holds}
 
--- Lists: what f gives of each entry, one after the other; the entries that pass a test; the first that does.
+-- Lists: what f gives of each entry, one after the other; the entries that pass a test; the first that does; the sum. (What a `let` binds
+-- is computed only where it is wanted, so that the worked sheets compute.)
 abbrev pub each : {A B : Type 0} → List A → (A → List B) → List B
 each [] f = []
 each (x ∷ xs) f = f x ++ each xs f
@@ -27,21 +30,33 @@ firstThat p (x ∷ xs) = let r = firstThat p xs in if (p x) (some x) r
 abbrev pub sum : List ℕ → ℕ
 sum l = sumTo (length l) (at l)
 
--- An entry of the listing: a size for each sort and a code for each term, in the sheet's order.
+-- An entry of the listing: a size for each sort (document 01: field) and a code for each term (expression), in the sheet's order.
 pub record Entry : Type 0 where
   pub sizes : List ℕ
   pub codes : List ℕ
 
+-- the entry with these sizes and codes
+abbrev pub entryOf : Sheet → (ℕ → ℕ) → (ℕ → ℕ) → Entry
+entryOf sh size c = record { sizes = firsts (length (sh .bounds)) size; codes = firsts (length (sh .terms)) c }
+
 -- sizes from floor to ceiling (none, where a floor is above its ceiling), and codes below the size of the term's sort
+abbrev pub sizeRange : Bound → Range
+sizeRange b = record { least = b .floor; many = suc (b .ceiling) - b .floor }
+
+abbrev pub codeRange : Sheet → List ℕ → Term → Range
+codeRange sh sizes t = record { least = 0; many = at sizes (symbolAt sh (t .symbol) .result) }
+
 abbrev pub sizeRanges : Sheet → List Range
-sizeRanges sh = map (λ (b : Bound). record { least = b .floor; many = suc (b .ceiling) - b .floor }) (sh .bounds)
+sizeRanges sh = map sizeRange (sh .bounds)
 
 abbrev pub codeRanges : Sheet → List ℕ → List Range
-codeRanges sh sizes = map (λ (t : Term). record { least = 0; many = at sizes (symbolAt sh (t .symbol) .result) }) (sh .terms)
+codeRanges sh sizes = map (codeRange sh sizes) (sh .terms)
 
+-- the sizes of sum n, the list that comes first standing first
 abbrev pub sizesOfSum : Sheet → ℕ → List (List ℕ)
 sizesOfSum sh n = keep (λ sizes. eqb (sum sizes) n) (box (sizeRanges sh))
 
+-- the entries with these sizes, the codes that come first standing first
 abbrev pub entriesAt : Sheet → List ℕ → List Entry
 entriesAt sh sizes = map (λ codes. record { sizes = sizes; codes = codes }) (box (codeRanges sh sizes))
 
@@ -57,6 +72,7 @@ pub record Cell : Type 0 where
 abbrev pub cellOf : (ℕ → ℕ) → ℕ → Term → Cell
 cellOf c i t = record { key = t .symbol ∷ map c (t .args); code = c i }
 
+-- the cells of terms numbered from i on; those of all terms
 abbrev pub cellsFrom : (ℕ → ℕ) → ℕ → List Term → List Cell
 cellsFrom c i [] = []
 cellsFrom c i (t ∷ ts) = cellOf c i t ∷ cellsFrom c (suc i) ts
@@ -73,10 +89,7 @@ abbrev pub functional : List Cell → Bool
 functional [] = true
 functional (x ∷ xs) = agrees x xs && functional xs
 
--- a literal holds where terms have the codes c; all do
-abbrev pub holds : (ℕ → ℕ) → Literal → Bool
-holds c l = if (l .equal) (eqb (c (l .left)) (c (l .right))) (not (eqb (c (l .left)) (c (l .right))))
-
+-- every literal holds where terms have the codes c; `holds` is the judge's test of one
 abbrev pub allHold : (ℕ → ℕ) → List Literal → Bool
 allHold c [] = true
 allHold c (l ∷ ls) = holds c l && allHold c ls

@@ -6,7 +6,7 @@ use mathlib.Core.List.{List, _++_}
 use mathlib.Core.Option.{Option, none, some}
 use lib.ListN.{length, drop}
 use lib.Dec.{ltb}
-use Rattle.logic.specs.Sheet.{Sheet, Bound, boundAt}
+use Rattle.logic.specs.Sheet.{Sheet, boundAt}
 use Rattle.sheet.specs.Layout.{Reading, accepted, refused, reading}
 use Rattle.tables.specs.Layout.{extent, encoded}
 use Rattle.finder.specs.Answer.{Entry, answer, sum, structureOf}

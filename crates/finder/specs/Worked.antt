@@ -1,6 +1,6 @@
 -- The fourteen worked sheets of document 01 as one table, and the printed example. A row has the sheet's bytes and what "find" is to give
 -- back and to write; a refused call writes nothing.
-use Prim.Native.Nat.{ℕ, _≤_}
+use Prim.Native.Nat.{ℕ, _+_, _*_, _≤_}
 use mathlib.Core.Path.{_≡_}
 use mathlib.Core.List.{List, [], _∷_, _++_}
 use lib.ListN.{length}
@@ -177,11 +177,12 @@ pub record Shown (r : Row) (cs ts : List ℕ) : Type 0 where
   pub codes : codesAfter (r .sheet) cs ts ≡ fronted (r .codes) cs
   pub tables : tablesAfter (r .sheet) cs ts ≡ fronted (r .tables) ts
 
+-- 128 codes; 8 sizes and 64 tables of 256 cells
 abbrev pub mostCodes : ℕ
 mostCodes = 128
 
 abbrev pub mostTables : ℕ
-mostTables = 16392
+mostTables = 8 + 64 * 256
 
 abbrev pub Shows : Row → Type 0
 Shows r = (cs ts : List ℕ) → mostCodes ≤ length cs → mostTables ≤ length ts → Shown r cs ts

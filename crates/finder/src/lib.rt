@@ -2,9 +2,14 @@
 use sheet::Parsed;
 ghost use mathlib.Core.Path.{_≡_};
 ghost use Prim.Native.Nat.{ℕ, _≤_, _<_};
-ghost use Rattle.logic.specs.Structure.{at};
+ghost use Rattle.logic.specs.Structure.{at, sumTo};
 ghost use Rattle.sheet.specs.Packed.{view};
-ghost use Rattle.finder.specs.Fill.{Filled};
+ghost use lib.ListN.{length, take};
+ghost use Rattle.logic.specs.Sheet.{Sheet};
+ghost use Rattle.logic.specs.Order.{firsts};
+ghost use Rattle.tables.specs.Parts.{Packs};
+ghost use Rattle.finder.specs.Find.{fronted};
+ghost use Rattle.finder.specs.Fill.{Filled, Writable, AnswerWritten, answerBytes};
 
 // The answer to the question "find".
 pub enum Finding {
@@ -36,4 +41,56 @@ fn symbol_table(p: Parsed, codes: [u8; 256], symbol: usize) -> [[u8; 16]; 16]
         }
     }
     t
+}
+
+// The sum of the first n sizes.
+fn sum_of(sizes: [u8; 8], n: usize) -> usize
+    requires { ⌜ n ≤ 8 ⌝ }
+    ensures { λ r. ⌜ r ≡ sumTo n (at sizes) ⌝ }
+{
+    let mut sum: usize = 0;
+    let mut s: usize = 0;
+    while s < n {
+        sum += wide(sizes[s]);
+        s += 1;
+    }
+    sum
+}
+
+// Writes the table of each symbol into its stretch, the sizes standing in front already.
+fn write_tables(out: &mut [u8], p: Parsed, sizes: [u8; 8], codes: [u8; 256])
+    requires { ⌜ Writable p (at sizes) (at codes) (length (now out)) ⌝ }
+    ensures { λ _. ⌜ ((sh : Sheet) → Packs sh p → take (length (sh .bounds)) (now (out .entry)) ≡ firsts (length (sh .bounds)) (at sizes) → now (out .exit) ≡ fronted (answerBytes sh (at sizes) (at codes)) (now (out .entry))) ⌝ }
+{
+    let offsets = tables::extents(p, sizes);
+    let n = p.symbols;
+    let mut f: usize = 0;
+    while f < n {
+        let t = symbol_table(p, codes, f);
+        let rows = tables::width_of(sizes, wide(p.param0[f]));
+        let columns = tables::width_of(sizes, wide(p.param1[f]));
+        let start = offsets[f];
+        let end = offsets[f + 1];
+        tables::write_table(&mut out[start..end], t, rows, columns);
+        f += 1;
+    }
+}
+
+// Writes an answer in front of both buffers, and gives the sum of its sizes.
+fn write_answer(
+    p: Parsed,
+    sizes: [u8; 8],
+    codes: [u8; 256],
+    code_out: &mut [u8],
+    table_out: &mut [u8],
+) -> usize
+    requires { ⌜ Writable p (at sizes) (at codes) (length (now «table_out»)) × (p .terms ≤ length (now «code_out»)) ⌝ }
+    ensures { λ r. ⌜ ((sh : Sheet) → Packs sh p → AnswerWritten sh (at sizes) (at codes) (now («code_out» .entry)) (now («table_out» .entry)) (now («code_out» .exit)) (now («table_out» .exit)) r) ⌝ }
+{
+    let terms = p.terms;
+    bytes::copy(&codes[..terms], code_out);
+    let sorts = p.sorts;
+    bytes::copy(&sizes[..sorts], table_out);
+    write_tables(table_out, p, sizes, codes);
+    sum_of(sizes, sorts)
 }

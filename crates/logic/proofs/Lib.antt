@@ -1,3 +1,5 @@
+pub mod Codes
+pub mod Sums
 pub mod Meaning
 pub mod OrderLaws
 pub mod Consistent

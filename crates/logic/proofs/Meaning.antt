@@ -1,14 +1,14 @@
 -- The codes of terms under a structure: a term's code is its symbol's table at the codes of its arguments, it lies in range, and codes
 -- with this property are the structure's own. With the first values of functions as lists.
-use Prim.Native.Nat.{ℕ, zero, suc, _+_, _≤_, _<_}
+use Prim.Native.Nat.{ℕ, zero, suc, _+_, _<_}
 use mathlib.Core.Path.{_≡_, refl, ap, ap₂, sym, _∙_, subst}
 use mathlib.Core.List.{List, [], _∷_, _++_, map}
 use lib.ListN.{length, getD, length-append, List·getD-append}
 use lib.Seq.{getD-append-seam, ext-getD}
 use native.Mathlib.Decide.{decLt}
 use native.Mathlib.Omega.{arith}
-use Rattle.logic.specs.Sheet.{Sheet, Bound, Symbol, Term, Literal, symbolAt, termAt, sortAt}
-use Rattle.logic.specs.WellFormed.{WellFormed, Each, Within}
+use Rattle.logic.specs.Sheet.{Sheet, Term, symbolAt, termAt, sortAt}
+use Rattle.logic.specs.WellFormed.{WellFormed, Each}
 use Rattle.logic.specs.Structure.{Structure, InSorts, Interprets, at, codesFrom, codes, code, sumTo}
 use Rattle.logic.specs.Order.{firsts}
 

@@ -1,8 +1,31 @@
-// Propagation: what follows for every consistent extension of some decided codes.
+// Propagation: what follows for every consistent extension of some decided codes. It starts from the literals, the sizes and the decided
+// codes, and runs the rules until they find nothing new or a conflict shows.
+use knowledge::MOST;
+use knowledge::join;
+use knowledge::label;
+use knowledge::mark;
+use knowledge::marked;
+use knowledge::strike;
+use knowledge::wide;
+use knowledge::word;
+use rules::join_congruent;
+use rules::join_singles;
+use rules::mark_arguments;
+use rules::strike_marked;
 use sheet::Parsed;
+ghost use Prim.Native.Nat.{_≤_, _<_};
+ghost use mathlib.Core.Path.{_≡_};
+ghost use mathlib.Core.Bool.{true, false};
+ghost use lib.ListN.{replicate};
 ghost use Rattle.logic.specs.Structure.{at};
+ghost use Rattle.knowledge.specs.Knows.{Bit, Labels, Words, Marks, Knows, Means, Kept};
+ghost use Rattle.rules.specs.Reasons.{Lawful};
 ghost use Rattle.sheet.specs.Packed.{view};
 ghost use Rattle.propagate.specs.Knowledge.{Propagated};
+ghost use Rattle.propagate.specs.Start.{SmallSizes, Own, Beyond, Fixed, SameHold, DifferHold, Shown, Grouped, Never};
+
+// The most rounds of the rules.
+const ROUNDS: usize = 512;
 
 // What propagation found out. Only dead and struck are promised; the rest guides the search.
 pub struct Outcome {
@@ -18,9 +41,315 @@ pub struct Outcome {
     pub degree: [u8; 128],
 }
 
-// What holds of every consistent extension of the decided codes at these sizes.
-pub fn propagate(p: Parsed, sizes: [u8; 8], decided: [u8; 256]) -> Outcome
-    ensures { λ r. ⌜ Propagated (view p) (at sizes) (at decided) (r .dead) (r .struck) ⌝ }
+// The number of terms or literals to go through.
+fn clamped(n: usize) -> usize
+    ensures { λ r. ⌜ (r ≤ n) × (r ≤ 128) ⌝ }
+{
+    if n < MOST { n } else { MOST }
+}
+
+// Whether no size is above 16.
+fn small_sizes(sizes: [u8; 8]) -> bool
+    ensures { λ r. ⌜ (r ≡ true → SmallSizes sizes) ⌝ }
+{
+    let mut s: usize = 0;
+    while s < 8 {
+        if 16 < sizes[s] {
+            return false;
+        }
+        s += 1;
+    }
+    true
+}
+
+// Each term is its own label.
+fn own_labels() -> [u8; 128]
+    ensures { λ r. ⌜ Own r ⌝ }
+{
+    let mut labels = [0u8; 128];
+    let mut i: usize = 0;
+    while i < MOST {
+        labels[i] = i as u8;
+        i += 1;
+    }
+    labels
+}
+
+// R1: the codes at or past the size of a sort.
+fn beyond(sizes: &[u8; 8], s: usize) -> u16
+    ensures { λ r. ⌜ Beyond (at (now (sizes .entry)) s) r ⌝ }
+{
+    if 8 <= s {
+        return 0;
+    }
+    let size = wide(sizes[s]);
+    if 16 < size {
+        return 0;
+    }
+    (65536u32 - (1u32 << size)) as u16
+}
+
+// Every code but the one that is decided.
+fn all_but(code: u8) -> u16
+    ensures { λ r. ⌜ (Bit r code → ⊥) ⌝ }
+{
+    if 16 <= code {
+        return 0;
+    }
+    65535 - (1u16 << code)
+}
+
+// What the size and the decided code strike out for one term.
+fn start_word<'a>(
+    words: &mut [u16; 128],
+    sort: &'a [u8; 128],
+    sizes: &'a [u8; 8],
+    decided: &'a [u8; 256],
+    n: usize,
+    i: usize,
+)
+    requires { ⌜ (n ≤ 128) × (i < n) ⌝ }
+    ensures { λ _. ⌜ Kept (Fixed n (now (sort .entry)) (now (sizes .entry)) (now (decided .entry))) (Words (now (words .entry))) (Words (now (words .exit))) ⌝ }
+{
+    strike(words, i, beyond(sizes, wide(sort[i])));
+    let code = decided[i];
+    if code == 255 {
+        return;
+    }
+    strike(words, i, all_but(code));
+}
+
+// What the sizes and the decided codes strike out.
+fn start_words<'a>(
+    words: &mut [u16; 128],
+    sort: &'a [u8; 128],
+    sizes: &'a [u8; 8],
+    decided: &'a [u8; 256],
+    n: usize,
+)
+    requires { ⌜ n ≤ 128 ⌝ }
+    ensures { λ _. ⌜ Kept (Fixed n (now (sort .entry)) (now (sizes .entry)) (now (decided .entry))) (Words (now (words .entry))) (Words (now (words .exit))) ⌝ }
+{
+    let mut i: usize = 0;
+    while i < n {
+        start_word(words, sort, sizes, decided, n, i);
+        i += 1;
+    }
+}
+
+// Joins the sides of one literal if it says that they are the same.
+fn join_sides<'a>(
+    labels: &mut [u8; 128],
+    words: &mut [u16; 128],
+    marks: &mut [u64; 256],
+    equal: &'a [u8; 128],
+    left: &'a [u8; 128],
+    right: &'a [u8; 128],
+    m: usize,
+    k: usize,
+)
+    requires { ⌜ (m ≤ 128) × (k < m) ⌝ }
+    ensures { λ _. ⌜ Kept (SameHold m (now (equal .entry)) (now (left .entry)) (now (right .entry))) (Knows (now (labels .entry)) (now (words .entry)) (now (marks .entry))) (Knows (now (labels .exit)) (now (words .exit)) (now (marks .exit))) ⌝ }
+{
+    let e = equal[k];
+    if e == 1 {
+        join(labels, words, marks, wide(left[k]), wide(right[k]));
+    }
+}
+
+// Joins what the literals say is the same.
+fn join_same<'a>(
+    labels: &mut [u8; 128],
+    words: &mut [u16; 128],
+    marks: &mut [u64; 256],
+    equal: &'a [u8; 128],
+    left: &'a [u8; 128],
+    right: &'a [u8; 128],
+    m: usize,
+)
+    requires { ⌜ m ≤ 128 ⌝ }
+    ensures { λ _. ⌜ Kept (SameHold m (now (equal .entry)) (now (left .entry)) (now (right .entry))) (Knows (now (labels .entry)) (now (words .entry)) (now (marks .entry))) (Knows (now (labels .exit)) (now (words .exit)) (now (marks .exit))) ⌝ }
+{
+    let mut k: usize = 0;
+    while k < m {
+        join_sides(labels, words, marks, equal, left, right, m, k);
+        k += 1;
+    }
+}
+
+// Marks the groups of the sides of one literal if it says that they differ.
+fn mark_sides<'a>(
+    marks: &mut [u64; 256],
+    labels: &'a [u8; 128],
+    equal: &'a [u8; 128],
+    left: &'a [u8; 128],
+    right: &'a [u8; 128],
+    m: usize,
+    k: usize,
+)
+    requires { ⌜ (m ≤ 128) × (k < m) ⌝ }
+    ensures { λ _. ⌜ Kept (DifferHold m (now (equal .entry)) (now (left .entry)) (now (right .entry)) (now (labels .entry))) (Marks (now (marks .entry))) (Marks (now (marks .exit))) ⌝ }
+{
+    let e = equal[k];
+    if e == 0 {
+        let a = label(labels, wide(left[k]));
+        let b = label(labels, wide(right[k]));
+        mark(marks, a, b);
+    }
+}
+
+// Marks what the literals say differs.
+fn mark_differ<'a>(
+    marks: &mut [u64; 256],
+    labels: &'a [u8; 128],
+    equal: &'a [u8; 128],
+    left: &'a [u8; 128],
+    right: &'a [u8; 128],
+    m: usize,
+)
+    requires { ⌜ m ≤ 128 ⌝ }
+    ensures { λ _. ⌜ Kept (DifferHold m (now (equal .entry)) (now (left .entry)) (now (right .entry)) (now (labels .entry))) (Marks (now (marks .entry))) (Marks (now (marks .exit))) ⌝ }
+{
+    let mut k: usize = 0;
+    while k < m {
+        mark_sides(marks, labels, equal, left, right, m, k);
+        k += 1;
+    }
+}
+
+// A group with no code left or marked against itself; 128 where there is none.
+fn conflict<'a>(words: &'a [u16; 128], marks: &'a [u64; 256], n: usize) -> usize
+    requires { ⌜ n ≤ 128 ⌝ }
+    ensures { λ r. ⌜ (r < 128 → Means (Shown (now (words .entry)) (now (marks .entry))) Never) ⌝ }
+{
+    let mut i: usize = 0;
+    while i < n {
+        if word(words, i) == 65535 {
+            return i;
+        }
+        if marked(marks, i, i) {
+            return i;
+        }
+        i += 1;
+    }
+    MOST
+}
+
+// The nearest earlier term of the same symbol; 255 where there is none.
+fn earlier_terms(symbol: &[u8; 128], n: usize) -> [u8; 128]
+    requires { ⌜ n ≤ 128 ⌝ }
+{
+    let mut earlier = [255u8; 128];
+    let mut last = [255u8; 256];
+    let mut i: usize = 0;
+    while i < n {
+        let f = wide(symbol[i]);
+        earlier[i] = last[f];
+        last[f] = i as u8;
+        i += 1;
+    }
+    earlier
+}
+
+// All rules once; says whether another round may find more.
+fn round<'a>(
+    labels: &mut [u8; 128],
+    words: &mut [u16; 128],
+    marks: &mut [u64; 256],
+    symbol: &'a [u8; 128],
+    arg0: &'a [u8; 128],
+    arg1: &'a [u8; 128],
+    sort: &'a [u8; 128],
+    earlier: &'a [u8; 128],
+    n: usize,
+) -> bool
+    requires { ⌜ n ≤ 128 ⌝ }
+    ensures { λ _. ⌜ Kept (Lawful n (now (symbol .entry)) (now (arg0 .entry)) (now (arg1 .entry))) (Knows (now (labels .entry)) (now (words .entry)) (now (marks .entry))) (Knows (now (labels .exit)) (now (words .exit)) (now (marks .exit))) ⌝ }
+{
+    let mut news = join_congruent(labels, words, marks, symbol, arg0, arg1, n);
+    news = join_singles(labels, words, marks, sort, n) | news;
+    news = strike_marked(words, labels, marks, n) | news;
+    if conflict(words, marks, n) < MOST {
+        return false;
+    }
+    mark_arguments(marks, labels, words, symbol, arg0, arg1, earlier, n) | news
+}
+
+// The rules until they find nothing new.
+fn rounds<'a>(
+    labels: &mut [u8; 128],
+    words: &mut [u16; 128],
+    marks: &mut [u64; 256],
+    symbol: &'a [u8; 128],
+    arg0: &'a [u8; 128],
+    arg1: &'a [u8; 128],
+    sort: &'a [u8; 128],
+    earlier: &'a [u8; 128],
+    n: usize,
+)
+    requires { ⌜ n ≤ 128 ⌝ }
+    ensures { λ _. ⌜ Kept (Lawful n (now (symbol .entry)) (now (arg0 .entry)) (now (arg1 .entry))) (Knows (now (labels .entry)) (now (words .entry)) (now (marks .entry))) (Knows (now (labels .exit)) (now (words .exit)) (now (marks .exit))) ⌝ }
+{
+    let mut news = true;
+    let mut done: usize = 0;
+    while news && done < ROUNDS {
+        news = round(labels, words, marks, symbol, arg0, arg1, sort, earlier, n);
+        done += 1;
+    }
+}
+
+// The word of each term's group.
+fn spread<'a>(labels: &'a [u8; 128], words: &'a [u16; 128]) -> [u16; 128]
+    ensures { λ r. ⌜ Means (Grouped (now (labels .entry)) (now (words .entry))) (Words r) ⌝ }
+{
+    let mut out = [0u16; 128];
+    let mut i: usize = 0;
+    while i < MOST {
+        out[i] = word(words, label(labels, i));
+        i += 1;
+    }
+    out
+}
+
+// The terms that are their own label, as a row of marks: one half of it.
+fn live(labels: &[u8; 128], half: usize) -> u64
+    requires { ⌜ half < 2 ⌝ }
+{
+    let mut row: u64 = 0;
+    let mut k: usize = 0;
+    while k < 64 {
+        if label(labels, half * 64 + k) == half * 64 + k {
+            row = row | (1u64 << k);
+        }
+        k += 1;
+    }
+    row
+}
+
+// How many bits of a word are set.
+fn ones(w: u64) -> usize
+    ensures { λ r. ⌜ r ≤ 64 ⌝ }
+{
+    u64::count_ones(w) as usize
+}
+
+// How many groups each term's group is marked against.
+fn degrees<'a>(labels: &'a [u8; 128], marks: &'a [u64; 256]) -> [u8; 128] {
+    let low = live(labels, 0);
+    let high = live(labels, 1);
+    let mut out = [0u8; 128];
+    let mut i: usize = 0;
+    while i < MOST {
+        let g = label(labels, i) % 128;
+        out[i] = (ones(marks[2 * g] & low) + ones(marks[2 * g + 1] & high)) as u8;
+        i += 1;
+    }
+    out
+}
+
+// Nothing found out.
+fn nothing() -> Outcome
+    ensures { λ r. ⌜ (r .dead ≡ false) × (r .struck ≡ replicate 128 0) ⌝ }
 {
     Outcome {
         dead: false,
@@ -28,5 +357,52 @@ pub fn propagate(p: Parsed, sizes: [u8; 8], decided: [u8; 256]) -> Outcome
         labels: [0u8; 128],
         struck: [0u16; 128],
         degree: [0u8; 128],
+    }
+}
+
+// What holds of every consistent extension of the decided codes at these sizes.
+pub fn propagate(p: Parsed, sizes: [u8; 8], decided: [u8; 256]) -> Outcome
+    ensures { λ r. ⌜ Propagated (view p) (at sizes) (at decided) (r .dead) (r .struck) ⌝ }
+{
+    if !small_sizes(sizes) {
+        return nothing();
+    }
+    let n = clamped(p.terms);
+    let m = clamped(p.literals);
+    let mut labels = own_labels();
+    let mut words = [0u16; 128];
+    let mut marks = [0u64; 256];
+    start_words(&mut words, &p.sort, &sizes, &decided, n);
+    join_same(
+        &mut labels,
+        &mut words,
+        &mut marks,
+        &p.equal,
+        &p.left,
+        &p.right,
+        m,
+    );
+    mark_differ(&mut marks, &labels, &p.equal, &p.left, &p.right, m);
+    let earlier = earlier_terms(&p.symbol, n);
+    rounds(
+        &mut labels,
+        &mut words,
+        &mut marks,
+        &p.symbol,
+        &p.arg0,
+        &p.arg1,
+        &p.sort,
+        &earlier,
+        n,
+    );
+    let g = conflict(&words, &marks, n);
+    let struck = spread(&labels, &words);
+    let degree = degrees(&labels, &marks);
+    Outcome {
+        dead: g < MOST,
+        group: (g % 256) as u8,
+        labels,
+        struck,
+        degree,
     }
 }

@@ -1,1 +1,12 @@
 pub mod View
+pub mod Bools
+pub mod Steps
+pub mod Causes
+pub mod Pack
+pub mod Pairs
+pub mod Terms
+pub mod ByKind
+pub mod Growing
+pub mod Records
+pub mod Answers
+pub mod Verdicts

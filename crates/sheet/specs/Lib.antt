@@ -1,3 +1,6 @@
 pub mod Layout
 pub mod Packed
 pub mod Views
+pub mod Step
+pub mod SoFar
+pub mod Parts

@@ -1,4 +1,15 @@
 // The layout of a sheet: records, the parsed sheet, and the question whether a sheet is accepted.
+mod faults;
+mod grow;
+
+ghost use mathlib.Core.Path.{_≡_};
+ghost use Prim.Native.Nat.{_+_, _<_, _≤_};
+ghost use lib.ListN.{length, getD, take, drop};
+ghost use Rattle.sheet.specs.Layout.{reading, refused, empty, word, payloadAt, kindAt, lengthAt, cause};
+ghost use Rattle.sheet.specs.Packed.{packed, parsing, verdict};
+ghost use Rattle.sheet.specs.Step.{stepAt, bytesOf, Short};
+ghost use Rattle.sheet.specs.SoFar.{Known};
+ghost use Rattle.sheet.specs.Parts.{Took, faultAt};
 
 // A parsed sheet: what its records say, field by field in the order of the records. A missing parameter or argument is 255.
 pub struct Parsed {
@@ -36,4 +47,259 @@ pub struct Parsing {
 pub enum Verdict {
     Accepted,
     Refused { number: u8, place: usize },
+}
+
+// What stands at a position of a sheet.
+pub enum Step {
+    // a whole record: its kind, and its payload's start and length
+    Record {
+        kind: usize,
+        start: usize,
+        len: usize,
+    },
+    // a record whose head or payload is cut short
+    Cut,
+    // nothing: the end of the sheet, or past it
+    End,
+}
+
+// The most bytes of a sheet.
+const MOST_BYTES: usize = 4096;
+
+// The record at a position; there is none at the end of the sheet or past it.
+pub fn step_at(s: &[u8], at: usize) -> Step
+    ensures { λ r. ⌜ r ≡ stepAt (now (s .entry)) at ⌝ }
+{
+    let n = s.len();
+    if n <= at {
+        return Step::End;
+    }
+    if n - at < 4 {
+        return Step::Cut;
+    }
+    let len = word(s, at);
+    if n - at - 4 < len {
+        return Step::Cut;
+    }
+    let kind = word(s, at + 2);
+    Step::Record {
+        kind,
+        start: at + 4,
+        len,
+    }
+}
+
+// A sheet's bytes and a position in them: records are handed out one at a time, with no copy of the bytes.
+pub struct Reader<'a> {
+    pub sheet: &'a [u8],
+    pub at: usize,
+}
+
+// A reader of a sheet at a position.
+pub fn reader_at<'a>(sheet: &'a [u8], at: usize) -> Reader<'a>
+    ensures { λ r. ⌜ (r .sheet ≡ sheet .entry) × (r .at ≡ at) ⌝ }
+{
+    Reader { sheet, at }
+}
+
+// The record at the reader's position: the reader is taken apart, and the record step does the work.
+pub fn next<'a>(r: Reader<'a>) -> Step
+    ensures { λ s. ⌜ s ≡ stepAt (now (r .entry .sheet)) (r .entry .at) ⌝ }
+{
+    step_at(r.sheet, r.at)
+}
+
+// The record at a position by way of a reader, for every caller that holds the bytes and a number.
+pub fn record_at(s: &[u8], at: usize) -> Step
+    ensures { λ r. ⌜ r ≡ stepAt (now (s .entry)) at ⌝ }
+{
+    next(reader_at(s, at))
+}
+
+// What the sheet's bytes say: the parsed sheet, or the refusal.
+pub fn parse(s: &[u8]) -> Parsing
+    ensures { λ r. ⌜ r ≡ parsing (reading (now (s .entry))) ⌝ }
+{
+    let n = s.len();
+    if n == 0 {
+        return refusal(1, 0);
+    }
+    if MOST_BYTES < n {
+        return refusal(1, 0);
+    }
+    let mut p = nothing();
+    let mut at: usize = 0;
+    while at < n {
+        let r = read_record(p, s, at);
+        if r.number != 0 {
+            return refusal(r.number, at);
+        }
+        at = r.next;
+        let grown = r.sheet;
+        p = grown;
+    }
+    if p.total == 0 {
+        return refusal(9, n);
+    }
+    Parsing {
+        number: 0,
+        place: 0,
+        sheet: p,
+    }
+}
+
+// The question "read": whether a sheet is accepted.
+pub fn read(s: &[u8]) -> Verdict
+    ensures { λ r. ⌜ r ≡ verdict (reading (now (s .entry))) ⌝ }
+{
+    let r = parse(s);
+    if r.number == 0 {
+        return Verdict::Accepted;
+    }
+    Verdict::Refused {
+        number: r.number,
+        place: r.place,
+    }
+}
+
+// ---- the parts of the parser: one record tested against the sheet so far, and added to it
+
+// A payload of one to three bytes, 255 for a second or third that is missing.
+pub(crate) struct Payload {
+    pub len: usize,
+    pub b0: u8,
+    pub b1: u8,
+    pub b2: u8,
+}
+
+// A record tested and added: number 0, where the next one starts and the sheet with it, or the number of the cause.
+pub(crate) struct Taken {
+    pub number: u8,
+    pub next: usize,
+    pub sheet: Parsed,
+}
+
+// A byte as a position.
+pub(crate) fn wide(x: u8) -> usize
+    ensures { λ r. ⌜ (r ≡ x) × (r < 256) ⌝ }
+{
+    x as usize
+}
+
+// A number of two bytes, little-endian.
+fn word(s: &[u8], i: usize) -> usize
+    requires { ⌜ i + 1 < length (now s) ⌝ }
+    ensures { λ r. ⌜ (r ≡ word (now (s .entry)) i) × (r < 65536) ⌝ }
+{
+    wide(s[i]) + 256 * wide(s[i + 1])
+}
+
+// The byte of a payload at a place, 255 where the payload ends before it.
+fn byte_or(s: &[u8], start: usize, len: usize, k: usize) -> u8
+    requires { ⌜ start + len ≤ length (now s) ⌝ }
+    ensures { λ r. ⌜ r ≡ getD (take len (drop start (now (s .entry)))) k 255 ⌝ }
+{
+    if k < len { s[start + k] } else { 255 }
+}
+
+// The payload that a record's start and length say.
+fn payload_of(s: &[u8], start: usize, len: usize) -> Payload
+    requires { ⌜ start + len ≤ length (now s) ⌝ }
+    requires { ⌜ (1 ≤ len) × (len ≤ 3) ⌝ }
+    ensures { λ r. ⌜ (bytesOf r ≡ take len (drop start (now (s .entry)))) × Short r ⌝ }
+{
+    Payload {
+        len,
+        b0: byte_or(s, start, len, 0),
+        b1: byte_or(s, start, len, 1),
+        b2: byte_or(s, start, len, 2),
+    }
+}
+
+// The sheet before its first record.
+fn nothing() -> Parsed
+    ensures { λ r. ⌜ r ≡ packed empty ⌝ }
+{
+    Parsed {
+        sorts: 0,
+        floor: [0u8; 8],
+        ceiling: [0u8; 8],
+        symbols: 0,
+        result: [0u8; 64],
+        param0: [0u8; 64],
+        param1: [0u8; 64],
+        terms: 0,
+        symbol: [0u8; 128],
+        arg0: [0u8; 128],
+        arg1: [0u8; 128],
+        sort: [0u8; 128],
+        literals: 0,
+        equal: [0u8; 128],
+        left: [0u8; 128],
+        right: [0u8; 128],
+        total: 0,
+    }
+}
+
+// A refusal, with an empty sheet.
+fn refusal(number: u8, place: usize) -> Parsing
+    ensures { λ r. ⌜ r ≡ parsing (refused number place) ⌝ }
+{
+    Parsing {
+        number,
+        place,
+        sheet: nothing(),
+    }
+}
+
+// A record that is not cut short, tested against the sheet so far and added to it.
+fn take_record(p: Parsed, s: &[u8], kind: usize, start: usize, len: usize) -> Taken
+    requires { ⌜ Known p ⌝ }
+    requires { ⌜ start + len ≤ length (now s) ⌝ }
+    ensures { λ r. ⌜ ((k : Known p) → Took (cause (k .sheet) kind (take len (drop start (now (s .entry))))) (start + len) kind (take len (drop start (now (s .entry)))) (k .sheet) r) ⌝ }
+{
+    if faults::is_misplaced(p, kind) {
+        return Taken {
+            number: 3,
+            next: start,
+            sheet: p,
+        };
+    }
+    if faults::is_wrong_length(kind, len) {
+        return Taken {
+            number: 4,
+            next: start,
+            sheet: p,
+        };
+    }
+    let q = payload_of(s, start, len);
+    let number = faults::fault(p, kind, q);
+    if number != 0 {
+        return Taken {
+            number,
+            next: start,
+            sheet: p,
+        };
+    }
+    Taken {
+        number: 0,
+        next: start + len,
+        sheet: grow::added(p, kind, q),
+    }
+}
+
+// The record at a position, tested and added.
+fn read_record(p: Parsed, s: &[u8], at: usize) -> Taken
+    requires { ⌜ Known p ⌝ }
+    requires { ⌜ at < length (now s) ⌝ }
+    ensures { λ r. ⌜ ((k : Known p) → Took (faultAt (now (s .entry)) at (k .sheet)) (at + 4 + lengthAt (now (s .entry)) at) (kindAt (now (s .entry)) at) (payloadAt (now (s .entry)) at) (k .sheet) r) ⌝ }
+{
+    let Step::Record { kind, start, len } = record_at(s, at) else {
+        return Taken {
+            number: 2,
+            next: at,
+            sheet: p,
+        };
+    };
+    take_record(p, s, kind, start, len)
 }

@@ -1,1 +1,4 @@
 pub mod Layout
+pub mod Tests
+pub mod Grid
+pub mod Parts

@@ -1,0 +1,4 @@
+pub mod Arrays
+pub mod Labels
+pub mod Sweeps
+pub mod Structures

@@ -1,0 +1,224 @@
+-- Sweeps of the congruence rule: they are sound, and labels that a sweep leaves as they are name the groups.
+use Prim.Native.Nat.{ℕ, zero, suc, _≤_, _<_, _+_}
+use native.Mathlib.Omega.{arith}
+use native.Mathlib.Decide.{decLt}
+use mathlib.Core.Path.{_≡_, ap, sym, _∙_}
+use borrow.Author.Tests.{lt-ltb, le-ltb}
+use Rattle.logic.specs.Problem.{Problem}
+use Rattle.logic.specs.Structure.{sumTo}
+use Rattle.congruence.specs.Groups.{Models, Keeps, Entails, Lowest, Groups, Closable, alone}
+use Rattle.congruence.specs.Steps.{Joined, named, cell, First, Closed, Step, Stated, Swept}
+use Rattle.congruence.specs.declared.Cell.{Cell}
+use Rattle.congruence.proofs.Labels.{joined-together, joined-step, step-none, step-more}
+
+pub named-there : (n : ℕ) (l : ℕ → ℕ) (a : ℕ) → a < n → named n l a ≡ l a
+named-there n l a h = rw (lt-ltb a n h)
+
+pub named-missing : (n : ℕ) (l : ℕ → ℕ) (a : ℕ) → n ≤ a → named n l a ≡ a
+named-missing n l a h = rw (le-ltb a n h)
+
+-- labels that agree name arguments alike, and terms reach the same cells
+named-agree : (n : ℕ) (l m : ℕ → ℕ) → ((k : ℕ) → k < n → m k ≡ l k) → (a : ℕ) → named n m a ≡ named n l a
+named-agree n l m agree a =
+    elim (decLt a n) [
+      | yes h ↦ named-there n m a h ∙ agree a h ∙ sym (named-there n l a h)
+      | no h ↦ let b : n ≤ a = omega arith in named-missing n m a b ∙ sym (named-missing n l a b)
+    ]
+
+cell-agree : (P : Problem) (l m : ℕ → ℕ) → ((k : ℕ) → k < P .terms → m k ≡ l k) → (i : ℕ) → cell P m i ≡ cell P l i
+cell-agree P l m agree i =
+    λ q. record {
+      symbol = P .symbol i;
+      first = named-agree (P .terms) l m agree (P .arg0 i) q;
+      second = named-agree (P .terms) l m agree (P .arg1 i) q;
+    }
+
+-- codes that keep to the labels do not tell an argument from its label
+keeps-named : (P : Problem) (l c : ℕ → ℕ) → Keeps P l c → (a : ℕ) → c (named (P .terms) l a) ≡ c a
+keeps-named P l c keeps a =
+    elim (decLt a (P .terms)) [
+      | yes h ↦ ap c (named-there (P .terms) l a h) ∙ keeps a h
+      | no h ↦ ap c (named-missing (P .terms) l a (omega arith))
+    ]
+
+-- the congruence rule is sound
+pub alike-sound : (P : Problem) (l : ℕ → ℕ) (i j : ℕ) → i < P .terms → j < P .terms → cell P l i ≡ cell P l j → (c : ℕ → ℕ) → Models P c → Keeps P l c → c i ≡ c j
+alike-sound P l i j bi bj e c models keeps =
+    models .congruent i j bi bj (ap (λ (x : Cell). x .symbol) e)
+    (sym (keeps-named P l c keeps (P .arg0 i)) ∙ ap (λ (x : Cell). c (x .first)) e ∙ keeps-named P l c keeps (P .arg0 j))
+    (sym (keeps-named P l c keeps (P .arg1 i)) ∙ ap (λ (x : Cell). c (x .second)) e ∙ keeps-named P l c keeps (P .arg1 j))
+
+-- the first term that reaches the cell of j has its label
+abbrev Settled : Problem → (ℕ → ℕ) → ℕ → Type 0
+Settled P l j = (t : ℕ) × First P l j t × (l t ≡ l j)
+
+settled-closed : (P : Problem) (l : ℕ → ℕ) → ((j : ℕ) → j < P .terms → Settled P l j) → Closed P l
+settled-closed P l all i j bi bj e =
+    let s = all i bi in
+    let t = all j bj in
+    let x = s .0 in
+    let y = t .0 in
+    let same : x ≡ y =
+    elim (decLt x y) [
+      | yes h ↦ absurd (t .1 .none x h (s .1 .alike ∙ e))
+      | no h ↦
+          elim (decLt y x) [
+            | yes g ↦ absurd (s .1 .none y g (t .1 .alike ∙ sym e))
+            | no g ↦ omega arith
+          ]
+    ] in
+    sym (s .2) ∙ ap l same ∙ t .2
+
+-- a sweep so far: where it changed nothing, the terms below j are settled
+pub record SweptTo (P : Problem) (l : ℕ → ℕ) (j : ℕ) (m : ℕ → ℕ) : Type 0 where
+  pub step : Step P l m
+  pub settled : ((k : ℕ) → k < 128 → m k ≡ l k) → (i : ℕ) → i < j → Settled P l i
+
+pub swept-none : (P : Problem) (l : ℕ → ℕ) → SweptTo P l 0 l
+swept-none P l = record { step = step-none P l; settled = λ same i b. absurd (omega arith) }
+
+module _ (P : Problem) (n : P .terms ≤ 128) (l : ℕ → ℕ) where
+  first-agree : (m : ℕ → ℕ) → ((k : ℕ) → k < 128 → m k ≡ l k) → (j t : ℕ) → First P m j t → First P l j t
+  first-agree m same j t first =
+      let cells = cell-agree P l m (λ k b. same k (omega arith)) in
+      record {
+        bound = first .bound;
+        alike = sym (cells t) ∙ first .alike ∙ cells j;
+        none = λ k b e. first .none k b (cells k ∙ e ∙ sym (cells j));
+      }
+
+  pub swept-more : (j t : ℕ) (m m′ : ℕ → ℕ) → j < P .terms → SweptTo P l j m → First P m j t → Joined m t j m′ → SweptTo P l (j + 1) m′
+  swept-more j t m m′ b so first joined =
+      let there : t < P .terms = omega (arith, first .bound) in
+      let more : Step P m m′ = joined-step m m′ t j joined P n there b (alike-sound P m t j there b (first .alike)) in
+      let together : m′ t ≡ m′ j = joined-together m m′ t j joined (omega arith) (omega arith) in
+      record {
+        step = step-more P l m m′ (so .step) more;
+        settled = λ same i below.
+            let before : (k : ℕ) → k < 128 → m k ≡ l k = λ k small. omega (arith, so .step .lower k small, more .lower k small, same k small) in
+            elim (decLt i j) [
+              | yes h ↦ so .settled before i h
+              | no h ↦
+                  let e : i ≡ j = omega arith in
+                  rw e (t, first-agree m before j t first, sym (same t (omega arith)) ∙ together ∙ same j (omega arith))
+            ];
+      }
+
+  pub swept-all : (m : ℕ → ℕ) → SweptTo P l (P .terms) m → Swept P l m
+  swept-all m so = record { step = so .step; closed = λ same. settled-closed P l (so .settled same) }
+
+-- the same statements below k have been seen to
+pub record StatedTo (P : Problem) (l : ℕ → ℕ) (k : ℕ) (m : ℕ → ℕ) : Type 0 where
+  pub step : Step P l m
+  pub stated : (x : ℕ) → x < k → P .equal x ≡ 1 → m (P .left x) ≡ m (P .right x)
+
+pub stated-none : (P : Problem) (l : ℕ → ℕ) → StatedTo P l 0 l
+stated-none P l = record { step = step-none P l; stated = λ x b. absurd (omega arith) }
+
+module _ (P : Problem) (fits : Closable P) (k : ℕ) (b : k < P .literals) (l m : ℕ → ℕ) (so : StatedTo P l k m) where
+  -- the sides i and j of a same statement made one
+  pub stated-same : (i j : ℕ) (m′ : ℕ → ℕ) → P .equal k ≡ 1 → i ≡ P .left k → j ≡ P .right k → Joined m i j m′ → StatedTo P l (k + 1) m′
+  stated-same i j m′ equal left right joined =
+      let n = fits .terms in
+      let i-there : i < P .terms = omega (arith, fits .left k b) in
+      let j-there : j < P .terms = omega (arith, fits .right k b) in
+      let more : Step P m m′ = joined-step m m′ i j joined P n i-there j-there (λ c models keeps. ap c left ∙ models .same k b equal ∙ ap c (sym right)) in
+      record {
+        step = step-more P l m m′ (so .step) more;
+        stated = λ x small e.
+            elim (decLt x k) [
+              | yes h ↦ more .coarser (P .left x) (P .right x) (omega (arith, fits .left x (omega arith))) (omega (arith, fits .right x (omega arith))) (so .stated x h e)
+              | no h ↦
+                  let eq : x ≡ k = omega arith in
+                  rw (eq, ← left, ← right) (joined-together m m′ i j joined (omega arith) (omega arith))
+            ];
+      }
+
+  -- a differ statement plays no part
+  pub stated-differ : (P .equal k ≡ 1 → ⊥) → StatedTo P l (k + 1) m
+  stated-differ differ =
+      record {
+        step = so .step;
+        stated = λ x small e.
+            elim (decLt x k) [
+              | yes h ↦ so .stated x h e
+              | no h ↦ let eq : x ≡ k = omega arith in absurd (differ (rw eq at e))
+            ];
+      }
+
+-- statements that hold of labels hold after a step
+pub stated-kept : (P : Problem) → Closable P → (l m : ℕ → ℕ) → Stated P l → Step P l m → Stated P m
+stated-kept P fits l m stated step k b e =
+    let n = fits .terms in
+    step .coarser (P .left k) (P .right k) (omega (arith, fits .left k b)) (omega (arith, fits .right k b)) (stated k b e)
+
+-- closed labels in which the same statements hold are themselves codes that meet everything, so that they tell apart what is not entailed
+module _ (P : Problem) (fits : Closable P) (E l : ℕ → ℕ) (low : Lowest E) (step : Step P E l) (stated : Stated P l) (closed : Closed P l) where
+  label-codes : ℕ → ℕ
+  label-codes = named (P .terms) l
+
+  own-codes : (i : ℕ) → i < P .terms → label-codes i ≡ l i
+  unfolding label-codes
+  own-codes i b = named-there (P .terms) l i b
+
+  labels-model : Models P label-codes
+  unfolding label-codes
+  labels-model =
+      record {
+        congruent = λ i j bi bj f x y. own-codes i bi ∙ closed i j bi bj (λ q. record { symbol = f q; first = x q; second = y q }) ∙ sym (own-codes j bj);
+        same = λ k b e. own-codes (P .left k) (fits .left k b) ∙ stated k b e ∙ sym (own-codes (P .right k) (fits .right k b));
+      }
+
+  labels-keep : Keeps P E label-codes
+  labels-keep i b =
+      let n = fits .terms in
+      let under : E i < P .terms = omega (arith, low .below i (omega arith)) in
+      own-codes (E i) under ∙ step .coarser (E i) i (omega arith) (omega arith) (low .self i (omega arith)) ∙ sym (own-codes i b)
+
+  pub labels-group : Groups P E l
+  labels-group =
+      let n = fits .terms in
+      let complete : (i j : ℕ) → i < P .terms → j < P .terms → Entails P E i j → l i ≡ l j =
+      λ i j bi bj e. sym (own-codes i bi) ∙ e label-codes labels-model labels-keep ∙ own-codes j bj in
+      let lowest = step .lowest low in
+      record {
+        sound = λ i j bi bj e c models keeps.
+            let kept = step .sound c models keeps in
+            sym (kept i bi) ∙ ap c e ∙ kept j bj;
+        complete = complete;
+        lowest = lowest;
+        least = λ i j bi bj e. omega (arith, complete i j bi bj e, lowest .below j (omega arith));
+      }
+
+-- the sum of the labels falls, or none has changed
+pub sum-lower : (n : ℕ) (l m : ℕ → ℕ) → ((k : ℕ) → k < n → m k ≤ l k) → sumTo n m ≤ sumTo n l
+sum-lower zero l m lower = omega arith
+sum-lower (suc n) l m lower = omega (arith, sum-lower n l m (λ k b. lower k (omega arith)), lower n (omega arith))
+
+pub sum-equal : (n : ℕ) (l m : ℕ → ℕ) → ((k : ℕ) → k < n → m k ≤ l k) → sumTo n m ≡ sumTo n l → (k : ℕ) → k < n → m k ≡ l k
+sum-equal zero l m lower e k b = absurd (omega arith)
+sum-equal (suc n) l m lower e k b =
+    let under = sum-lower n l m (λ x small. lower x (omega arith)) in
+    let last = lower n (omega arith) in
+    elim (decLt k n) [
+      | yes h ↦ sum-equal n l m (λ x small. lower x (omega arith)) (omega arith) k h
+      | no h ↦ let eq : k ≡ n = omega arith in rw eq (omega arith)
+    ]
+
+pub sum-falls : (n : ℕ) (l m : ℕ → ℕ) → ((k : ℕ) → k < n → m k ≤ l k) → (x y : ℕ) → x ≡ sumTo n m → y ≡ sumTo n l → (x ≡ y → ⊥) → sumTo n m < sumTo n l
+sum-falls n l m lower x y ex ey differ = omega (arith, sum-lower n l m lower)
+
+-- labels that agree below 128 state the same
+pub groups-agree : (P : Problem) (E E′ l : ℕ → ℕ) → P .terms ≤ 128 → ((k : ℕ) → k < 128 → E k ≡ E′ k) → Groups P E l → Groups P E′ l
+groups-agree P E E′ l n agree g =
+    let to : (c : ℕ → ℕ) → Keeps P E c → Keeps P E′ c = λ c keeps i b. ap c (sym (agree i (omega arith))) ∙ keeps i b in
+    let from : (c : ℕ → ℕ) → Keeps P E′ c → Keeps P E c = λ c keeps i b. ap c (agree i (omega arith)) ∙ keeps i b in
+    record {
+      sound = λ i j bi bj e c models keeps. g .sound i j bi bj e c models (from c keeps);
+      complete = λ i j bi bj e. g .complete i j bi bj (λ c models keeps. e c models (to c keeps));
+      lowest = g .lowest;
+      least = λ i j bi bj e. g .least i j bi bj (λ c models keeps. e c models (to c keeps));
+    }
+
+pub alone-lowest : (E : ℕ → ℕ) → ((k : ℕ) → k < 128 → E k ≡ alone k) → Lowest E
+alone-lowest E agree = record { below = λ k b. omega (arith, agree k b); self = λ k b. ap E (agree k b) }

@@ -1,0 +1,3 @@
+pub mod Groups
+pub mod Forced
+pub mod Steps

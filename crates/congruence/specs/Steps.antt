@@ -1,0 +1,54 @@
+-- What the steps of the closure promise of labels.
+use Prim.Native.Nat.{ℕ, _≤_, _<_, min, max}
+use mathlib.Core.Path.{_≡_}
+use lib.Dec.{ltb, eqb}
+use Rattle.logic.specs.Problem.{Problem}
+use Rattle.sheet.specs.Layout.{if}
+use Rattle.congruence.specs.Groups.{Models, Keeps, Lowest}
+use Rattle.congruence.specs.declared.Cell.{Cell}
+
+-- hi becomes lo, every other label stays
+abbrev pub relabel : ℕ → ℕ → ℕ → ℕ
+relabel lo hi x = if (eqb x hi) lo x
+
+-- the groups of i and j are made one: all terms of the higher label take the lower
+abbrev pub Joined : (ℕ → ℕ) → ℕ → ℕ → (ℕ → ℕ) → Type 0
+Joined l i j m = (k : ℕ) → k < 128 → m k ≡ relabel (min (l i) (l j)) (max (l i) (l j)) (l k)
+
+-- the label of an argument; a missing one, a number past the n terms, stands for itself
+abbrev pub named : ℕ → (ℕ → ℕ) → ℕ → ℕ
+named n l a = if (ltb a n) (l a) a
+
+-- the cell of a symbol's table at two arguments, where labels are the codes
+abbrev pub cellAt : ℕ → (ℕ → ℕ) → ℕ → ℕ → ℕ → Cell
+cellAt n l f a b = record { symbol = f; first = named n l a; second = named n l b }
+
+-- the cell that a term reaches
+abbrev pub cell : Problem → (ℕ → ℕ) → ℕ → Cell
+cell P l i = cellAt (P .terms) l (P .symbol i) (P .arg0 i) (P .arg1 i)
+
+-- t is the first term that reaches the cell of j
+pub record First (P : Problem) (l : ℕ → ℕ) (j t : ℕ) : Type 0 where
+  pub bound : t ≤ j
+  pub alike : cell P l t ≡ cell P l j
+  pub none : (k : ℕ) → k < t → cell P l k ≡ cell P l j → ⊥
+
+-- terms that reach one cell have one label
+abbrev pub Closed : Problem → (ℕ → ℕ) → Type 0
+Closed P l = (i j : ℕ) → i < P .terms → j < P .terms → cell P l i ≡ cell P l j → l i ≡ l j
+
+-- from the labels l to m groups were only made one where every model of P that keeps to l has equal codes
+pub record Step (P : Problem) (l m : ℕ → ℕ) : Type 0 where
+  pub lower : (k : ℕ) → k < 128 → m k ≤ l k
+  pub coarser : (i j : ℕ) → i < 128 → j < 128 → l i ≡ l j → m i ≡ m j
+  pub lowest : Lowest l → Lowest m
+  pub sound : (c : ℕ → ℕ) → Models P c → Keeps P l c → Keeps P m c
+
+-- the same statements hold of the labels
+abbrev pub Stated : Problem → (ℕ → ℕ) → Type 0
+Stated P l = (k : ℕ) → k < P .literals → P .equal k ≡ 1 → l (P .left k) ≡ l (P .right k)
+
+-- one sweep over the terms: where it changes no label, the labels are closed
+pub record Swept (P : Problem) (l m : ℕ → ℕ) : Type 0 where
+  pub step : Step P l m
+  pub closed : ((k : ℕ) → k < 128 → m k ≡ l k) → Closed P l

@@ -1,0 +1,68 @@
+-- Two structures that agree on a sheet's sorts and cells answer it alike.
+use Prim.Native.Nat.{ℕ, _<_}
+use mathlib.Core.Path.{_≡_, sym, _∙_}
+use mathlib.Core.List.{List, [], _∷_, map}
+use lib.ListN.{length}
+use native.Mathlib.Omega.{arith}
+use Rattle.logic.specs.Sheet.{Sheet, symbolAt, termAt}
+use Rattle.logic.specs.WellFormed.{WellFormed, Each}
+use Rattle.logic.specs.Structure.{Structure, InSorts, Interprets, Candidate, codes, code}
+use Rattle.logic.specs.Order.{sizesOf, sumOf}
+use Rattle.logic.proofs.Codes.{reached-in-params, same-code, same-codes, satisfies-same}
+use Rattle.logic.proofs.Meaning.{firsts-same, sumTo-same}
+use Rattle.finder.specs.Answer.{Entry, sum}
+use Rattle.finder.specs.Demand.{Answers}
+
+-- N has M's sizes, and its tables hold what M's hold
+pub record Alike (sh : Sheet) (M N : Structure) : Type 0 where
+  pub size : (s : ℕ) → s < length (sh .bounds) → N .size s ≡ M .size s
+  pub table : (f : ℕ) → f < length (sh .symbols) → (cs : List ℕ) → InSorts (M .size) (symbolAt sh f .params) cs → N .table f cs ≡ M .table f cs
+
+in-sorts-same : (n : ℕ) (size size′ : ℕ → ℕ) → ((s : ℕ) → s < n → size′ s ≡ size s) → (ss cs : List ℕ) → Each (λ s. s < n) ss → InSorts size′ ss cs → InSorts size ss cs
+in-sorts-same n size size′ same [] [] e i = tt
+in-sorts-same n size size′ same [] (c ∷ cs) e i = i
+in-sorts-same n size size′ same (s ∷ ss) [] e i = i
+in-sorts-same n size size′ same (s ∷ ss) (c ∷ cs) e i =
+    (rw (← same s (e .0)) (i .0), in-sorts-same n size size′ same ss cs (e .1) (i .1))
+
+module _ (sh : Sheet) (w : WellFormed sh) (M N : Structure) (a : Alike sh M N) where
+  alike-candidate : Candidate M sh → Candidate N sh
+  alike-candidate k =
+      record {
+        interprets = record {
+          nonempty = λ s h. omega (arith, a .size s h, k .interprets .nonempty s h);
+          complete = λ f h cs i.
+              let j : InSorts (M .size) (symbolAt sh f .params) cs = in-sorts-same (length (sh .bounds)) (M .size) (N .size) (a .size) (symbolAt sh f .params) cs (w .params f h) i in
+              omega (arith, a .table f h cs j, a .size (symbolAt sh f .result) (w .result f h), k .interprets .complete f h cs j);
+        };
+        bounded = record {
+          floor = λ s h. omega (arith, a .size s h, k .bounded .floor s h);
+          ceiling = λ s h. omega (arith, a .size s h, k .bounded .ceiling s h);
+          total = omega (arith, sumTo-same (length (sh .bounds)) (N .size) (M .size) (a .size), k .bounded .total);
+        };
+      }
+
+  -- their tables agree at the cells that terms reach
+  reached : Interprets M sh → (i : ℕ) → i < length (sh .terms) → M .table (termAt sh i .symbol) (map (code M sh) (termAt sh i .args)) ≡ N .table (termAt sh i .symbol) (map (code M sh) (termAt sh i .args))
+  reached k i h =
+      sym (a .table (termAt sh i .symbol) (w .symbol i h) (map (code M sh) (termAt sh i .args)) (reached-in-params M sh w k i h))
+
+  pub alike-answers : (e : Entry) → Answers sh e M → Answers sh e N
+  alike-answers e k =
+      record {
+        candidate = alike-candidate (k .candidate);
+        satisfies = satisfies-same M N sh (same-code M N sh w (reached (k .candidate .interprets))) (k .satisfies);
+        sum = sums ∙ k .sum;
+        sizes = sizes ∙ k .sizes;
+        codes = same ∙ k .codes;
+        first = λ K c s l. k .first K c s (rw (← sums, ← sizes, ← same) l);
+      }
+    where
+      same : codes N sh ≡ codes M sh
+      same = sym (same-codes M N sh w (reached (k .candidate .interprets)))
+
+      sums : sumOf N sh ≡ sumOf M sh
+      sums = sumTo-same (length (sh .bounds)) (N .size) (M .size) (a .size)
+
+      sizes : sizesOf N sh ≡ sizesOf M sh
+      sizes = firsts-same (length (sh .bounds)) (N .size) (M .size) (a .size)

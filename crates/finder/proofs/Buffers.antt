@@ -1,0 +1,67 @@
+-- Every byte of a buffer with an answer in front: the answer's, then what stood there before.
+use Prim.Native.Nat.{ℕ, suc, _+_, _≤_, _<_}
+use mathlib.Core.Path.{_≡_, refl, ap, ap₂, sym, _∙_}
+use mathlib.Core.List.{List, [], _∷_, _++_, append-assoc}
+use lib.ListN.{length, take, drop, set, length-append}
+use native.Mathlib.Omega.{arith}
+use lib.Seq.{length-front, length-take-le, take-append-seam, drop-append-seam, drop-append-add, drop-drop, drop-cons, set-append-seam}
+use Rattle.logic.specs.Structure.{at}
+use Rattle.finder.specs.Find.{Outcome, turnedDown, answered, outcome, finds, finding, fronted, codesIn, codesAfter, tablesIn, tablesAfter}
+use Rattle.finder.specs.declared.Finding.the-variants.{Refused}
+
+pub length-fronted : (new buffer : List ℕ) → length new ≤ length buffer → length (fronted new buffer) ≡ length buffer
+length-fronted new buffer h = length-front buffer new (length new) (sym (length-take-le (length new) buffer h))
+
+pub front-fronted : (new buffer : List ℕ) → take (length new) (fronted new buffer) ≡ new
+front-fronted new buffer = take-append-seam new (drop (length new) buffer)
+
+pub rest-fronted : (new buffer : List ℕ) → drop (length new) (fronted new buffer) ≡ drop (length new) buffer
+rest-fronted new buffer = drop-append-seam new (drop (length new) buffer)
+
+-- result and buffers by what became of the call
+pub record Exit (s cs ts : List ℕ) (o : Outcome) : Type 0 where
+  pub result : finding s (length cs) (length ts) ≡ finds o
+  pub codes : codesAfter s cs ts ≡ codesIn o cs
+  pub tables : tablesAfter s cs ts ≡ tablesIn o ts
+
+pub exit : (s cs ts : List ℕ) (o : Outcome) → outcome s (length cs) (length ts) ≡ o → Exit s cs ts o
+unfolding finding codesAfter tablesAfter
+exit s cs ts o q =
+    record {
+      result = ap finds q;
+      codes = ap (λ (x : Outcome). codesIn x cs) q;
+      tables = ap (λ (x : Outcome). tablesIn x ts) q;
+    }
+
+-- a refused call leaves both buffers as they were
+pub refused-untouched : (s cs ts : List ℕ) (n i : ℕ) → finding s (length cs) (length ts) ≡ Refused n i → (codesAfter s cs ts ≡ cs) × (tablesAfter s cs ts ≡ ts)
+refused-untouched s cs ts n i f = step (outcome s (length cs) (length ts)) refl
+  where
+    step : (o : Outcome) → outcome s (length cs) (length ts) ≡ o → (codesAfter s cs ts ≡ cs) × (tablesAfter s cs ts ≡ ts)
+    step (turnedDown m j) q = let x : Exit s cs ts (turnedDown m j) = exit s cs ts (turnedDown m j) q in (x .codes, x .tables)
+    step (answered sh e) q =
+        let r : finds (answered sh e) ≡ Refused n i = sym (exit s cs ts (answered sh e) q .result) ∙ f in
+        let z : _≡_ {A = ℕ} 0 1 = cc in
+        absurd (omega arith)
+
+-- Writing in order: one more byte, or one more stretch, behind what stands in front.
+pub fronted-byte : (xs buffer : List ℕ) (x : ℕ) → length xs < length buffer → set (fronted xs buffer) (length xs) x ≡ fronted (xs ++ (x ∷ [])) buffer
+fronted-byte xs buffer x h =
+    ap (λ (l : List ℕ). set (xs ++ l) (length xs) x) (drop-cons buffer (length xs) 0 h)
+    ∙ set-append-seam xs (at buffer (length xs)) (drop (suc (length xs)) buffer) x
+    ∙ sym (append-assoc xs (x ∷ []) (drop (suc (length xs)) buffer))
+    ∙ ap (λ (n : ℕ). (xs ++ (x ∷ [])) ++ drop n buffer) more
+  where
+    more : suc (length xs) ≡ length (xs ++ (x ∷ []))
+    more = omega (arith, length-append xs (x ∷ []))
+
+pub fronted-stretch : (xs ys buffer : List ℕ) → take (length xs) (fronted xs buffer) ++ (ys ++ drop (length xs + length ys) (fronted xs buffer)) ≡ fronted (xs ++ ys) buffer
+fronted-stretch xs ys buffer =
+    ap₂ (λ (a b : List ℕ). a ++ (ys ++ b)) (front-fronted xs buffer) rest
+    ∙ sym (append-assoc xs ys (drop (length (xs ++ ys)) buffer))
+  where
+    rest : drop (length xs + length ys) (fronted xs buffer) ≡ drop (length (xs ++ ys)) buffer
+    rest =
+        drop-append-add xs (drop (length xs) buffer) (length ys)
+        ∙ drop-drop (length ys) (length xs) buffer
+        ∙ ap (λ (n : ℕ). drop n buffer) (sym (length-append xs ys))

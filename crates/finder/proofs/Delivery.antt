@@ -1,0 +1,152 @@
+-- Demand 3 of the bytes: what a call gives back and leaves in the buffers is the answer of the sheet, and only that.
+use Prim.Native.Nat.{ℕ, _≤_, _<_}
+use mathlib.Core.Path.{_≡_, refl, ap, sym, _∙_}
+use mathlib.Core.Logic.{inl, inr}
+use mathlib.Core.List.{List}
+use mathlib.Core.Option.{Option, none, some}
+use lib.ListN.{length, take, drop, List·getD-append}
+use native.Mathlib.Omega.{arith}
+use Rattle.logic.specs.Sheet.{Sheet}
+use Rattle.logic.specs.WellFormed.{WellFormed}
+use Rattle.logic.specs.Structure.{at}
+use Rattle.logic.proofs.Meaning.{length-codes}
+use Rattle.sheet.specs.Layout.{Reading, accepted, reading}
+use Rattle.sheet.proofs.Answers.{accepted-well-formed}
+use Rattle.tables.specs.Layout.{extent, decoded, encoded}
+use Rattle.tables.specs.Judge.{judgedOf, judgement}
+use Rattle.tables.specs.declared.Judgement.the-variants.{Fits}
+use Rattle.tables.proofs.Judged.{judged-says}
+use Rattle.finder.specs.Answer.{Entry, answer, sum, structureOf}
+use Rattle.finder.specs.Find.{ceilings, answering, finding, codesAfter, tablesAfter}
+use Rattle.finder.specs.Demand.{Answers, Delivered, Promised, codesWritten, tablesWritten}
+use Rattle.finder.specs.declared.Finding.the-variants.{Found, Refused}
+use Rattle.finder.proofs.Lists.{found-or-none}
+use Rattle.finder.proofs.Demand.{demand}
+use Rattle.finder.proofs.Outcomes.{outcome-long}
+use Rattle.finder.proofs.Buffers.{Exit, exit, front-fronted, rest-fronted}
+use Rattle.finder.proofs.Alike.{alike-answers}
+use Rattle.finder.proofs.Encoding.{length-encoded, encoded-size, round-trip, encoded-laid, extent-same, extent-monotone}
+
+module _ (sh : Sheet) (w : WellFormed sh) (s cs ts : List ℕ) (reads : reading s ≡ accepted sh) (codesFit : length (sh .terms) ≤ length cs) (tablesFit : extent sh (ceilings sh) ≤ length ts) where
+  -- what the answer makes of the call
+  exits : (a : Option Entry) → answer sh ≡ a → Exit s cs ts (answering sh a)
+  exits a q = exit s cs ts (answering sh a) (outcome-long s sh a (length cs) (length ts) reads codesFit tablesFit q)
+
+  module _ (e : Entry) (q : answer sh ≡ some e) where
+    abbrev bytes : List ℕ
+    bytes = encoded (structureOf sh e) sh
+
+    given : Answers sh e (structureOf sh e)
+    given = demand sh w .finds e q
+
+    long : length (e .codes) ≡ length (sh .terms)
+    long = ap length (sym (given .codes)) ∙ length-codes (structureOf sh e) sh
+
+    -- both answers have room in their buffers
+    pub codes-room : length (e .codes) ≤ length cs
+    codes-room = omega (arith, long)
+
+    pub tables-room : length bytes ≤ length ts
+    tables-room =
+        omega (arith, length-encoded sh w (structureOf sh e), extent-monotone sh w (structureOf sh e .size) (ceilings sh) (given .candidate .bounded .ceiling))
+
+    -- the tables in front of the buffer are as long as their own sizes say
+    extended : extent sh (at (tablesAfter s cs ts)) ≡ length bytes
+    extended =
+        extent-same sh w (at (tablesAfter s cs ts)) (structureOf sh e .size) same ∙ sym (length-encoded sh w (structureOf sh e))
+      where
+        same : (i : ℕ) → i < length (sh .bounds) → at (tablesAfter s cs ts) i ≡ structureOf sh e .size i
+        same i h =
+            ap (λ (l : List ℕ). at l i) (exits (some e) q .tables)
+            ∙ List·getD-append bytes (drop (length bytes) ts) 0 i (omega (arith, length-encoded sh w (structureOf sh e)))
+            ∙ encoded-size sh w (structureOf sh e) i h
+
+    written : tablesWritten sh (tablesAfter s cs ts) ≡ bytes
+    written =
+        ap (λ (k : ℕ). take k (tablesAfter s cs ts)) extended
+        ∙ ap (take (length bytes)) (exits (some e) q .tables)
+        ∙ front-fronted bytes ts
+
+    told : codesWritten sh (codesAfter s cs ts) ≡ e .codes
+    told =
+        ap (λ (k : ℕ). take k (codesAfter s cs ts)) (sym long)
+        ∙ ap (take (length (e .codes))) (exits (some e) q .codes)
+        ∙ front-fronted (e .codes) cs
+
+    delivered : Delivered sh (sum (e .sizes)) (codesWritten sh (codesAfter s cs ts)) (tablesWritten sh (tablesAfter s cs ts))
+    delivered =
+        let g : Answers sh e (decoded sh bytes) = alike-answers sh w (structureOf sh e) (decoded sh bytes) (round-trip sh w (structureOf sh e)) e given in
+        rw written
+        (record {
+          laid = encoded-laid sh w (structureOf sh e) (given .candidate);
+          candidate = g .candidate;
+          satisfies = g .satisfies;
+          sum = sym (g .sum);
+          codes = told ∙ sym (g .codes);
+          first = g .first;
+        })
+
+    behind-codes : drop (length (sh .terms)) (codesAfter s cs ts) ≡ drop (length (sh .terms)) cs
+    behind-codes =
+        rw (← long) (ap (drop (length (e .codes))) (exits (some e) q .codes) ∙ rest-fronted (e .codes) cs)
+
+    behind-tables : drop (extent sh (at (tablesAfter s cs ts))) (tablesAfter s cs ts) ≡ drop (extent sh (at (tablesAfter s cs ts))) ts
+    behind-tables =
+        ap (λ (k : ℕ). drop k (tablesAfter s cs ts)) extended
+        ∙ ap (drop (length bytes)) (exits (some e) q .tables)
+        ∙ rest-fronted bytes ts
+        ∙ ap (λ (k : ℕ). drop k ts) (sym extended)
+
+  -- what was found is the answer
+  found-is : (n : ℕ) → finding s (length cs) (length ts) ≡ Found n → (e : Entry) × (answer sh ≡ some e) × (sum (e .sizes) ≡ n)
+  found-is n f = step (answer sh) refl
+    where
+      step : (a : Option Entry) → answer sh ≡ a → (e : Entry) × (answer sh ≡ some e) × (sum (e .sizes) ≡ n)
+      step none q = let r : Refused 11 0 ≡ Found n = sym (exits none q .result) ∙ f in let z : _≡_ {A = ℕ} 0 1 = cc in absurd (omega arith)
+      step (some e) q = (e, q, (let r : Found (sum (e .sizes)) ≡ Found n = sym (exits (some e) q .result) ∙ f in cc))
+
+  refused-none : finding s (length cs) (length ts) ≡ Refused 11 0 → answer sh ≡ none
+  refused-none f = step (answer sh) refl
+    where
+      step : (a : Option Entry) → answer sh ≡ a → answer sh ≡ none
+      step none q = q
+      step (some e) q = let r : Found (sum (e .sizes)) ≡ Refused 11 0 = sym (exits (some e) q .result) ∙ f in let z : _≡_ {A = ℕ} 0 1 = cc in absurd (omega arith)
+
+  -- demand 3 of the call
+  pub promised : Promised sh s cs ts
+  promised =
+      record {
+        refuses = (λ f. demand sh w .refuses .0 (refused-none f), λ h. exits none (demand sh w .refuses .1 h) .result);
+        either = elim (found-or-none (answer sh)) [ inl q ↦ inl (exits none q .result) | inr r ↦ inr (sum (r .0 .sizes), exits (some (r .0)) (r .1) .result) ];
+        delivers = λ n f. let r : _ = found-is n f in rw (← r .2) (delivered (r .0) (r .1));
+        behindCodes = λ n f. let r : _ = found-is n f in behind-codes (r .0) (r .1);
+        behindTables = λ n f. let r : _ = found-is n f in behind-tables (r .0) (r .1);
+      }
+
+-- THEOREM: demand 3 of every call on an accepted sheet with buffers that suffice
+pub accepted-promised : (s cs ts : List ℕ) (sh : Sheet) → reading s ≡ accepted sh → length (sh .terms) ≤ length cs → extent sh (ceilings sh) ≤ length ts → Promised sh s cs ts
+accepted-promised s cs ts sh q = promised sh (accepted-well-formed s sh q) s cs ts q
+
+-- What is found and written does not depend on what the buffers held, nor on how long they are once they suffice.
+pub record Same (sh : Sheet) (s cs ts cs′ ts′ : List ℕ) : Type 0 where
+  pub result : finding s (length cs) (length ts) ≡ finding s (length cs′) (length ts′)
+  pub codes : (n : ℕ) → finding s (length cs) (length ts) ≡ Found n → codesWritten sh (codesAfter s cs ts) ≡ codesWritten sh (codesAfter s cs′ ts′)
+  pub tables : (n : ℕ) → finding s (length cs) (length ts) ≡ Found n → tablesWritten sh (tablesAfter s cs ts) ≡ tablesWritten sh (tablesAfter s cs′ ts′)
+
+pub same : (sh : Sheet) → WellFormed sh → (s cs ts cs′ ts′ : List ℕ) → reading s ≡ accepted sh → length (sh .terms) ≤ length cs → extent sh (ceilings sh) ≤ length ts → length (sh .terms) ≤ length cs′ → extent sh (ceilings sh) ≤ length ts′ → Same sh s cs ts cs′ ts′
+same sh w s cs ts cs′ ts′ q h k h′ k′ =
+    record {
+      result = exits sh w s cs ts q h k (answer sh) refl .result ∙ sym (exits sh w s cs′ ts′ q h′ k′ (answer sh) refl .result);
+      codes = λ n f.
+          let r : (e : Entry) × (answer sh ≡ some e) × (sum (e .sizes) ≡ n) = found-is sh w s cs ts q h k n f in
+          told sh w s cs ts q h k (r .0) (r .1) ∙ sym (told sh w s cs′ ts′ q h′ k′ (r .0) (r .1));
+      tables = λ n f.
+          let r : (e : Entry) × (answer sh ≡ some e) × (sum (e .sizes) ≡ n) = found-is sh w s cs ts q h k n f in
+          written sh w s cs ts q h k (r .0) (r .1) ∙ sym (written sh w s cs′ ts′ q h′ k′ (r .0) (r .1));
+    }
+
+-- the judge finds that delivered tables fit
+pub judged-fits : (s : List ℕ) (sh : Sheet) (n : ℕ) (C T : List ℕ) → reading s ≡ accepted sh → Delivered sh n C T → judgement s T ≡ Fits
+unfolding judgement
+judged-fits s sh n C T q d =
+    ap (λ (r : Reading). judgedOf r T) q ∙ judged-says sh T Fits .1 (d .laid, d .candidate, d .satisfies)

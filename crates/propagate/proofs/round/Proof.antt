@@ -1,0 +1,46 @@
+-- `propagate::round` meets its contract: one rule after the other.
+use Rattle.knowledge.proofs.Laws.{step, chain, in-words, in-marks}
+use Rattle.rules.specs.Reasons.{Told, Settled}
+use borrow.Author.Needs.{needs}
+use Rattle.propagate.proofs.round.Statement.{statement}
+use Rattle.propagate.proofs.round.Tie as tie
+
+join-congruent-requires : tie.Need-join-congruent-requires
+join-congruent-requires c κs = search needs
+
+join-singles-requires : tie.Need-join-singles-requires
+join-singles-requires c κs = search needs
+
+strike-marked-requires : tie.Need-strike-marked-requires
+strike-marked-requires c κs = search needs
+
+conflict-requires : tie.Need-conflict-requires
+conflict-requires c κs = search needs
+
+returns : tie.Need-returns
+returns c =
+    chain (step (λ a l k. l .congruent) (c .before .before .before .before .before .before .before .before .before .before .before .before .join-congruent .ensures))
+    (chain (step (λ a l k. l .small) (c .before .before .before .before .before .before .before .before .join-singles .ensures))
+    (step (λ a l k. record { small = l .small; marks = k .marks }) (in-words (c .before .before .before .before .strike-marked .ensures))))
+
+mark-arguments-requires : tie.Need-mark-arguments-requires
+mark-arguments-requires c κs = search needs
+
+returns-2 : tie.Need-returns-2
+returns-2 c =
+    chain (step (λ a l k. l .congruent) (c .before .before .before .before .before .before .before .before .before .before .before .before .before .before .before .before .join-congruent .ensures))
+    (chain (step (λ a l k. l .small) (c .before .before .before .before .before .before .before .before .before .before .before .before .join-singles .ensures))
+    (chain (step (λ a l k. record { small = l .small; marks = k .marks }) (in-words {w′ = c .before .before .before .before .before .before .before .before .strike-marked .last .0} (c .before .before .before .before .before .before .before .before .strike-marked .ensures)))
+    (step (λ a l k. record { lawful = l; labels = k .labels; words = k .words }) (in-marks (c .mark-arguments .ensures)))))
+
+pub round-spec : {M : Type 1} → statement M
+round-spec =
+    tie.close
+    (tie.spec
+    join-congruent-requires
+    join-singles-requires
+    strike-marked-requires
+    conflict-requires
+    returns
+    mark-arguments-requires
+    returns-2)

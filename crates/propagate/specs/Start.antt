@@ -1,0 +1,49 @@
+-- What the start of propagation rests on, said of one assignment c of codes to terms.
+use Prim.Native.Nat.{ℕ, _≤_, _<_}
+use mathlib.Core.Path.{_≡_}
+use mathlib.Core.List.{List}
+use Rattle.logic.specs.Structure.{at}
+use Rattle.logic.specs.Problem.{undecided}
+use Rattle.knowledge.specs.Knows.{Bit, Words, Marks, Labels, Small}
+
+-- no size is above 16
+abbrev pub SmallSizes : List ℕ → Type 0
+SmallSizes sizes = (s : ℕ) → at sizes s ≤ 16
+
+-- the labels say nothing yet
+abbrev pub Own : List ℕ → Type 0
+Own l = (i : ℕ) → i < 128 → at l i ≡ i
+
+-- no code below the size is in the word w
+pub record Beyond (size w : ℕ) : Type 0 where
+  pub beyond : (v : ℕ) → v < 16 → v < size → Bit w v → ⊥
+
+-- of the first n terms: codes below the size of the sort, and as decided
+pub record Fixed (n : ℕ) (sort sizes decided : List ℕ) (c : ℕ → ℕ) : Type 0 where
+  pub small : Small c
+  pub range : (i : ℕ) → i < n → c i < at sizes (at sort i)
+  pub fixed : (i : ℕ) → i < n → (at decided i ≡ undecided → ⊥) → c i ≡ at decided i
+
+-- of the first m literals: the same statements hold
+abbrev pub SameHold : ℕ → List ℕ → List ℕ → List ℕ → (ℕ → ℕ) → Type 0
+SameHold m equal left right c = (k : ℕ) → k < m → at equal k ≡ 1 → c (at left k) ≡ c (at right k)
+
+-- of the first m literals: the differ statements hold, and the labels are right
+pub record DifferHold (m : ℕ) (equal left right l : List ℕ) (c : ℕ → ℕ) : Type 0 where
+  pub differ : (k : ℕ) → k < m → at equal k ≡ 0 → c (at left k) ≡ c (at right k) → ⊥
+  pub labels : Labels l c
+
+-- all that can show a conflict
+pub record Shown (w m : List ℕ) (c : ℕ → ℕ) : Type 0 where
+  pub small : Small c
+  pub words : Words w c
+  pub marks : Marks m c
+
+-- labels and words: what is known of the code of each term
+pub record Grouped (l w : List ℕ) (c : ℕ → ℕ) : Type 0 where
+  pub labels : Labels l c
+  pub words : Words w c
+
+-- no assignment
+abbrev pub Never : (ℕ → ℕ) → Type 0
+Never c = ⊥

@@ -1,0 +1,46 @@
+-- `rules::strike_row` meets its contract: the group's code is the one that is left to it.
+use Rattle.knowledge.proofs.Laws.{step, chain}
+use Rattle.rules.specs.Reasons.{Given}
+use borrow.Author.Needs.{needs}
+use Rattle.rules.proofs.strike_row.Statement.{statement}
+use Rattle.rules.proofs.strike_row.Tie as tie
+
+label-requires : tie.Need-label-requires
+label-requires c κs = search needs
+
+returns : tie.Need-returns
+returns c = search needs
+
+word-requires : tie.Need-word-requires
+word-requires c κs = search needs
+
+single-requires : tie.Need-single-requires
+single-requires c κs = search needs
+
+returns-2 : tie.Need-returns-2
+returns-2 c = search needs
+
+strike-half-requires : tie.Need-strike-half-requires
+strike-half-requires c κs = search needs
+
+strike-half-requires-2 : tie.Need-strike-half-requires-2
+strike-half-requires-2 c κs = search needs
+
+returns-3 : tie.Need-returns-3
+returns-3 c =
+    let g = c .before .before .before .before .before .before .before .before .before .before .args .g in
+    let one = c .before .before .before .before .before .single .ensures (c .before .before .before .before .if2 .left) in
+    step (λ a t w. record { code = one .only (a g) (t .small g) (c .before .before .before .before .before .before .word .ensures .means a w); marks = t .marks }) (chain (c .before .before .strike-half .ensures) (c .strike-half2 .ensures))
+
+pub strike-row-spec : {M : Type 1} → statement M
+strike-row-spec =
+    tie.close
+    (tie.spec
+    label-requires
+    returns
+    word-requires
+    single-requires
+    returns-2
+    strike-half-requires
+    strike-half-requires-2
+    returns-3)

@@ -1,0 +1,390 @@
+// The rules of propagation, each a pass over all terms that adds knowledge. A rule is an optional inference: a pass promises that what
+// was true of an assignment stays true, and which pairs of terms it tries is free.
+use knowledge::MOST;
+use knowledge::apart;
+use knowledge::join;
+use knowledge::label;
+use knowledge::lowest;
+use knowledge::mark;
+use knowledge::marked;
+use knowledge::single;
+use knowledge::strike;
+use knowledge::wide;
+use knowledge::word;
+ghost use Prim.Native.Nat.{_≤_, _<_};
+ghost use Rattle.logic.specs.Structure.{at};
+ghost use Rattle.knowledge.specs.Knows.{Labels, Words, Marks, Knows, Small, Same, Means, Kept};
+ghost use Rattle.rules.specs.Reasons.{Congruent, Told, Given, Lawful, Settled};
+
+// R2 of two terms: with the same single code left they are one group.
+fn same_code(
+    labels: &mut [u8; 128],
+    words: &mut [u16; 128],
+    marks: &mut [u64; 256],
+    i: usize,
+    j: usize,
+) -> bool
+    ensures { λ _. ⌜ Kept Small (Knows (now (labels .entry)) (now (words .entry)) (now (marks .entry))) (Knows (now (labels .exit)) (now (words .exit)) (now (marks .exit))) ⌝ }
+{
+    let v = single(word(words, i));
+    if 16 <= v {
+        return false;
+    }
+    let u = single(word(words, j));
+    if u != v {
+        return false;
+    }
+    join(labels, words, marks, i, j)
+}
+
+// The place for the code v of a sort among the groups with a single code.
+fn place(sort: u8, v: usize) -> usize
+    requires { ⌜ v < 16 ⌝ }
+    ensures { λ r. ⌜ r < 128 ⌝ }
+{
+    wide(sort) % 8 * 16 + v
+}
+
+// R2 of one group: joins it to the group met before with its single code, or notes it as the first.
+fn meet_single(
+    labels: &mut [u8; 128],
+    words: &mut [u16; 128],
+    marks: &mut [u64; 256],
+    first: &mut [u8; 128],
+    sort: u8,
+    i: usize,
+) -> bool
+    requires { ⌜ i < 128 ⌝ }
+    ensures { λ _. ⌜ Kept Small (Knows (now (labels .entry)) (now (words .entry)) (now (marks .entry))) (Knows (now (labels .exit)) (now (words .exit)) (now (marks .exit))) ⌝ }
+{
+    if label(labels, i) != i {
+        return false;
+    }
+    let v = single(word(words, i));
+    if 16 <= v {
+        return false;
+    }
+    let k = place(sort, v);
+    let j = wide(first[k]);
+    if j == 255 {
+        first[k] = i as u8;
+        return false;
+    }
+    same_code(labels, words, marks, j, i)
+}
+
+// R2: groups of one sort with the same single code left are one.
+pub fn join_singles(
+    labels: &mut [u8; 128],
+    words: &mut [u16; 128],
+    marks: &mut [u64; 256],
+    sort: &[u8; 128],
+    n: usize,
+) -> bool
+    requires { ⌜ n ≤ 128 ⌝ }
+    ensures { λ _. ⌜ Kept Small (Knows (now (labels .entry)) (now (words .entry)) (now (marks .entry))) (Knows (now (labels .exit)) (now (words .exit)) (now (marks .exit))) ⌝ }
+{
+    let mut first = [255u8; 128];
+    let mut news = false;
+    let mut i: usize = 0;
+    while i < n {
+        news = meet_single(labels, words, marks, &mut first, sort[i], i) | news;
+        i += 1;
+    }
+    news
+}
+
+// The label of an argument of a term.
+fn argument<'a>(labels: &'a [u8; 128], args: &'a [u8; 128], i: usize) -> usize
+    requires { ⌜ i < 128 ⌝ }
+    ensures { λ r. ⌜ Means (Labels (now (labels .entry))) (Same r (at (now (args .entry)) i)) ⌝ }
+{
+    label(labels, wide(args[i]))
+}
+
+// R3 of two terms: one symbol and equal argument labels, so they are one group.
+fn congruent<'a>(
+    labels: &mut [u8; 128],
+    words: &mut [u16; 128],
+    marks: &mut [u64; 256],
+    symbol: &'a [u8; 128],
+    arg0: &'a [u8; 128],
+    arg1: &'a [u8; 128],
+    n: usize,
+    i: usize,
+    j: usize,
+) -> bool
+    requires { ⌜ (n ≤ 128) × (i < n) ⌝ }
+    ensures { λ _. ⌜ Kept (Congruent n (now (symbol .entry)) (now (arg0 .entry)) (now (arg1 .entry))) (Knows (now (labels .entry)) (now (words .entry)) (now (marks .entry))) (Knows (now (labels .exit)) (now (words .exit)) (now (marks .exit))) ⌝ }
+{
+    if n <= j {
+        return false;
+    }
+    let f = symbol[i];
+    let g = symbol[j];
+    if f != g {
+        return false;
+    }
+    if argument(labels, arg0, i) != argument(labels, arg0, j) {
+        return false;
+    }
+    if argument(labels, arg1, i) != argument(labels, arg1, j) {
+        return false;
+    }
+    join(labels, words, marks, i, j)
+}
+
+// The symbol and the argument labels of a term as one number.
+fn key<'a>(
+    labels: &'a [u8; 128],
+    symbol: &'a [u8; 128],
+    arg0: &'a [u8; 128],
+    arg1: &'a [u8; 128],
+    i: usize,
+) -> usize
+    requires { ⌜ i < 128 ⌝ }
+    ensures { λ r. ⌜ r < 16777216 ⌝ }
+{
+    let a = argument(labels, arg0, i) % 256;
+    let b = argument(labels, arg1, i) % 256;
+    wide(symbol[i]) * 65536 + a * 256 + b
+}
+
+// Where a key stands in the table of the terms met so far, or the free place for it.
+fn find<'a>(table: &'a [u8; 256], keys: &'a [u32; 256], k: u32) -> usize
+    ensures { λ r. ⌜ r < 256 ⌝ }
+{
+    let mut h: usize = ((k / 65536 * 31 + k / 256 % 256 * 17 + k % 256 * 101) % 256) as usize;
+    let mut tried: usize = 0;
+    while tried < 256 {
+        if table[h] == 255 {
+            return h;
+        }
+        if keys[h] == k {
+            return h;
+        }
+        h = (h + 1) % 256;
+        tried += 1;
+    }
+    h
+}
+
+// R3 of one term: joins it to the term met before with its key, or notes it as the first.
+fn meet_key<'a>(
+    labels: &mut [u8; 128],
+    words: &mut [u16; 128],
+    marks: &mut [u64; 256],
+    table: &mut [u8; 256],
+    keys: &mut [u32; 256],
+    symbol: &'a [u8; 128],
+    arg0: &'a [u8; 128],
+    arg1: &'a [u8; 128],
+    n: usize,
+    i: usize,
+) -> bool
+    requires { ⌜ (n ≤ 128) × (i < n) ⌝ }
+    ensures { λ _. ⌜ Kept (Congruent n (now (symbol .entry)) (now (arg0 .entry)) (now (arg1 .entry))) (Knows (now (labels .entry)) (now (words .entry)) (now (marks .entry))) (Knows (now (labels .exit)) (now (words .exit)) (now (marks .exit))) ⌝ }
+{
+    if arg0[i] == 255 {
+        return false;
+    }
+    let k = key(labels, symbol, arg0, arg1, i) as u32;
+    let h = find(table, keys, k);
+    let j = wide(table[h]);
+    if j == 255 {
+        table[h] = i as u8;
+        keys[h] = k;
+        return false;
+    }
+    congruent(labels, words, marks, symbol, arg0, arg1, n, i, j)
+}
+
+// R3: terms of one symbol whose arguments have equal labels are one group.
+pub fn join_congruent<'a>(
+    labels: &mut [u8; 128],
+    words: &mut [u16; 128],
+    marks: &mut [u64; 256],
+    symbol: &'a [u8; 128],
+    arg0: &'a [u8; 128],
+    arg1: &'a [u8; 128],
+    n: usize,
+) -> bool
+    requires { ⌜ n ≤ 128 ⌝ }
+    ensures { λ _. ⌜ Kept (Congruent n (now (symbol .entry)) (now (arg0 .entry)) (now (arg1 .entry))) (Knows (now (labels .entry)) (now (words .entry)) (now (marks .entry))) (Knows (now (labels .exit)) (now (words .exit)) (now (marks .exit))) ⌝ }
+{
+    let mut table = [255u8; 256];
+    let mut keys = [0u32; 256];
+    let mut news = false;
+    let mut i: usize = 0;
+    while i < n {
+        news = meet_key(
+            labels,
+            words,
+            marks,
+            &mut table,
+            &mut keys,
+            symbol,
+            arg0,
+            arg1,
+            n,
+            i,
+        )
+            | news;
+        i += 1;
+    }
+    news
+}
+
+// R5 of two groups: k cannot have the code v of a group g that it is marked against.
+fn strike_one(words: &mut [u16; 128], marks: &[u64; 256], g: usize, v: usize, k: usize) -> bool
+    requires { ⌜ v < 16 ⌝ }
+    ensures { λ _. ⌜ Kept (Given (now (marks .entry)) g v) (Words (now (words .entry))) (Words (now (words .exit))) ⌝ }
+{
+    if marked(marks, g, k) {
+        return strike(words, k, 1u16 << v);
+    }
+    false
+}
+
+// R5 of one group and half of the groups marked against it.
+fn strike_half(words: &mut [u16; 128], marks: &[u64; 256], g: usize, v: usize, half: usize) -> bool
+    requires { ⌜ (v < 16) × ((g < 128) × (half < 2)) ⌝ }
+    ensures { λ _. ⌜ Kept (Given (now (marks .entry)) g v) (Words (now (words .entry))) (Words (now (words .exit))) ⌝ }
+{
+    let mut rest: u64 = marks[2 * g + half];
+    let mut news = false;
+    while 0 < rest {
+        news = strike_one(words, marks, g, v, half * 64 + lowest(rest)) | news;
+        rest = rest & (rest - 1);
+    }
+    news
+}
+
+// R5 of one group: a single code left is struck out in the groups marked against it.
+fn strike_row<'a>(
+    words: &mut [u16; 128],
+    labels: &'a [u8; 128],
+    marks: &'a [u64; 256],
+    g: usize,
+) -> bool
+    requires { ⌜ g < 128 ⌝ }
+    ensures { λ _. ⌜ Kept (Told (now (marks .entry))) (Words (now (words .entry))) (Words (now (words .exit))) ⌝ }
+{
+    if label(labels, g) != g {
+        return false;
+    }
+    let v = single(word(words, g));
+    if 16 <= v {
+        return false;
+    }
+    let low = strike_half(words, marks, g, v, 0);
+    let high = strike_half(words, marks, g, v, 1);
+    low | high
+}
+
+// R5: a group with one code left takes it out of the groups marked against it.
+pub fn strike_marked<'a>(
+    words: &mut [u16; 128],
+    labels: &'a [u8; 128],
+    marks: &'a [u64; 256],
+    n: usize,
+) -> bool
+    requires { ⌜ n ≤ 128 ⌝ }
+    ensures { λ _. ⌜ Kept (Told (now (marks .entry))) (Words (now (words .entry))) (Words (now (words .exit))) ⌝ }
+{
+    let mut news = false;
+    let mut i: usize = 0;
+    while i < n {
+        news = strike_row(words, labels, marks, i) | news;
+        i += 1;
+    }
+    news
+}
+
+// R4 of two terms: where their results differ and all argument pairs but one are equal, that pair differs.
+fn contrapose<'a>(
+    marks: &mut [u64; 256],
+    labels: &'a [u8; 128],
+    words: &'a [u16; 128],
+    symbol: &'a [u8; 128],
+    arg0: &'a [u8; 128],
+    arg1: &'a [u8; 128],
+    n: usize,
+    i: usize,
+    j: usize,
+) -> bool
+    requires { ⌜ (n ≤ 128) × (i < n) ⌝ }
+    ensures { λ _. ⌜ Kept (Settled n (now (symbol .entry)) (now (arg0 .entry)) (now (arg1 .entry)) (now (labels .entry)) (now (words .entry))) (Marks (now (marks .entry))) (Marks (now (marks .exit))) ⌝ }
+{
+    if n <= j {
+        return false;
+    }
+    let f = symbol[i];
+    let g = symbol[j];
+    if f != g {
+        return false;
+    }
+    if !apart(words, marks, label(labels, i), label(labels, j)) {
+        return false;
+    }
+    let a = argument(labels, arg0, i);
+    let b = argument(labels, arg0, j);
+    let x = argument(labels, arg1, i);
+    let y = argument(labels, arg1, j);
+    if x == y {
+        return mark(marks, a, b);
+    }
+    if a == b {
+        return mark(marks, x, y);
+    }
+    false
+}
+
+// R4 of one term and the earlier terms of its symbol.
+fn contrapose_row<'a>(
+    marks: &mut [u64; 256],
+    labels: &'a [u8; 128],
+    words: &'a [u16; 128],
+    symbol: &'a [u8; 128],
+    arg0: &'a [u8; 128],
+    arg1: &'a [u8; 128],
+    earlier: &'a [u8; 128],
+    n: usize,
+    i: usize,
+) -> bool
+    requires { ⌜ (n ≤ 128) × (i < n) ⌝ }
+    ensures { λ _. ⌜ Kept (Settled n (now (symbol .entry)) (now (arg0 .entry)) (now (arg1 .entry)) (now (labels .entry)) (now (words .entry))) (Marks (now (marks .entry))) (Marks (now (marks .exit))) ⌝ }
+{
+    let mut news = false;
+    let mut j = wide(earlier[i]);
+    let mut tried: usize = 0;
+    while j < MOST && tried < MOST {
+        news = contrapose(marks, labels, words, symbol, arg0, arg1, n, i, j) | news;
+        j = wide(earlier[j]);
+        tried += 1;
+    }
+    news
+}
+
+// R4: where the results of one symbol differ and all argument pairs but one are equal, that pair differs.
+pub fn mark_arguments<'a>(
+    marks: &mut [u64; 256],
+    labels: &'a [u8; 128],
+    words: &'a [u16; 128],
+    symbol: &'a [u8; 128],
+    arg0: &'a [u8; 128],
+    arg1: &'a [u8; 128],
+    earlier: &'a [u8; 128],
+    n: usize,
+) -> bool
+    requires { ⌜ n ≤ 128 ⌝ }
+    ensures { λ _. ⌜ Kept (Settled n (now (symbol .entry)) (now (arg0 .entry)) (now (arg1 .entry)) (now (labels .entry)) (now (words .entry))) (Marks (now (marks .entry))) (Marks (now (marks .exit))) ⌝ }
+{
+    let mut news = false;
+    let mut i: usize = n;
+    while 0 < i {
+        i -= 1;
+        news = contrapose_row(marks, labels, words, symbol, arg0, arg1, earlier, n, i) | news;
+    }
+    news
+}

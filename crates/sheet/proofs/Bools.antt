@@ -1,0 +1,28 @@
+-- Tests joined by "and" and "or", taken apart.
+use mathlib.Core.Path.{_≡_, refl, sym}
+use mathlib.Core.Bool.{Bool, true, false, _&&_, _||_, true≢false}
+
+pub and-both : (a b : Bool) → (a && b) ≡ true → (a ≡ true) × (b ≡ true)
+and-both true true e = (refl, refl)
+and-both true false e = absurd (true≢false (sym e))
+and-both false b e = absurd (true≢false (sym e))
+
+pub or-both : (a b : Bool) → (a || b) ≡ false → (a ≡ false) × (b ≡ false)
+or-both true b e = absurd (true≢false e)
+or-both false b e = (refl, e)
+
+pub or-all : (a b c d : Bool) → (a || b || c || d) ≡ false → (a ≡ false) × (b ≡ false) × (c ≡ false) × (d ≡ false)
+or-all true b c d e = absurd (true≢false e)
+or-all false true c d e = absurd (true≢false e)
+or-all false false true d e = absurd (true≢false e)
+or-all false false false d e = (refl, refl, refl, e)
+
+pub or-fourth : (a b c d : Bool) → d ≡ true → true ≡ (a || b || c || d)
+or-fourth true b c d e = refl
+or-fourth false true c d e = refl
+or-fourth false false true d e = refl
+or-fourth false false false d e = sym e
+
+pub and-no : (a b : Bool) → b ≡ false → (a && b) ≡ false
+and-no true b e = e
+and-no false b e = refl

@@ -1,0 +1,111 @@
+-- The invariant: the sheet so far is known, and the records from here on decide.
+use Rattle.sheet.proofs.Records.{Going, reading-empty, reading-long, going-start, going-untotalled, going-accepted, going-refused, going-next}
+use borrow.Author.Needs.{needs}
+use Prim.Native.Nat.{_-_}
+use native.Mathlib.Omega.{arith}
+use mathlib.Core.Path.{ap, sym, _∙_}
+use lib.ListN.{length}
+use Rattle.sheet.specs.Packed.{parsing}
+use Rattle.sheet.proofs.parse.Statement.{statement}
+use Rattle.sheet.proofs.parse.Tie as tie
+
+abbrev Inv-loop : tie.InvT-loop
+Inv-loop s n p₀ at₀ p at = Going s at p
+
+abbrev μ-loop : tie.MeasureT-loop
+μ-loop s n p₀ at₀ p at = length s - at
+
+refusal-requires : tie.Need-refusal-requires Inv-loop μ-loop
+refusal-requires c κs = search needs
+
+returns : tie.Need-returns Inv-loop μ-loop
+returns c = c .refusal .ensures ∙ ap parsing (sym (reading-empty (c .before .before .before .args .s .now) (c .before .if1 .taken)))
+
+refusal-requires-2 : tie.Need-refusal-requires-2 Inv-loop μ-loop
+refusal-requires-2 c κs = search needs
+
+returns-2 : tie.Need-returns-2 Inv-loop μ-loop
+returns-2 c =
+    c .refusal2 .ensures
+    ∙ ap parsing
+    (sym
+    (reading-long (c .before .before .before .before .args .s .now) (c .before .before .if1 .left) (c .before .if2 .taken)))
+
+nothing-requires : tie.Need-nothing-requires Inv-loop μ-loop
+nothing-requires c κs = search needs
+
+loop-holds : tie.Need-loop-holds Inv-loop μ-loop
+loop-holds c =
+    going-start (c .before .before .before .before .args .s .now) (c .nothing .result) (c .nothing .ensures)
+    (c .before .before .if1 .left) (c .before .if2 .left)
+
+read-record-requires : tie.Need-read-record-requires Inv-loop μ-loop
+read-record-requires c κs = (c .before .loop .inv .known, c .loop-test .taken)
+
+refusal-requires-3 : tie.Need-refusal-requires-3 Inv-loop μ-loop
+refusal-requires-3 c κs = search needs
+
+returns-3 : tie.Need-returns-3 Inv-loop μ-loop
+returns-3 c =
+    c .refusal3 .ensures
+    ∙ ap parsing
+    (going-refused (c .before .before .before .before .before .before .before .before .before .before .args .s .now)
+    (c .before .before .before .before .before .loop .at) (c .before .before .before .before .before .loop .p)
+    (c .before .before .before .before .before .loop .inv) (c .before .before .before .before .loop-test .taken)
+    (c .before .before .before .read-record .result)
+    (c .before .before .before .read-record .ensures (c .before .before .before .before .before .loop .inv .known))
+    (c .before .if3 .taken))
+
+loop-less : tie.Need-loop-less Inv-loop μ-loop
+loop-less c =
+    let t =
+    c .before .before .before .read-record .ensures (c .before .before .before .before .before .loop .inv .known) .next
+    (c .before .if3 .left) in
+    omega (arith, c .before .before .before .before .loop-test .taken)
+
+loop-again : tie.Need-loop-again Inv-loop μ-loop
+loop-again c =
+    going-next (c .before .before .before .before .before .before .before .before .before .before .args .s .now)
+    (c .before .before .before .before .before .loop .at) (c .before .before .before .before .before .loop .p)
+    (c .before .before .before .before .before .loop .inv) (c .before .before .before .before .loop-test .taken)
+    (c .before .before .before .read-record .result)
+    (c .before .before .before .read-record .ensures (c .before .before .before .before .before .loop .inv .known))
+    (c .before .if3 .left)
+
+refusal-requires-4 : tie.Need-refusal-requires-4 Inv-loop μ-loop
+refusal-requires-4 c κs = search needs
+
+returns-4 : tie.Need-returns-4 Inv-loop μ-loop
+returns-4 c =
+    c .refusal4 .ensures
+    ∙ ap parsing
+    (going-untotalled (c .before .before .before .before .before .before .before .before .before .args .s .now)
+    (c .before .before .before .before .loop .at) (c .before .before .before .before .loop .p)
+    (c .before .before .before .before .loop .inv) (c .before .before .before .loop-test .left) (c .before .if4 .taken))
+
+returns-5 : tie.Need-returns-5 Inv-loop μ-loop
+returns-5 c =
+    going-accepted (c .before .before .before .before .before .before .before .before .args .s .now)
+    (c .before .before .before .loop .at) (c .before .before .before .loop .p) (c .before .before .before .loop .inv)
+    (c .before .before .loop-test .left) (c .if4 .left)
+
+pub parse-spec : {M : Type 1} → statement M
+parse-spec =
+    tie.close
+    (tie.spec
+    Inv-loop
+    μ-loop
+    refusal-requires
+    returns
+    refusal-requires-2
+    returns-2
+    nothing-requires
+    loop-holds
+    read-record-requires
+    refusal-requires-3
+    returns-3
+    loop-less
+    loop-again
+    refusal-requires-4
+    returns-4
+    returns-5)

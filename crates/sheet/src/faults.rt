@@ -1,0 +1,305 @@
+// The causes 3 to 8 for which a record is refused, tested against the sheet so far.
+use crate::Parsed;
+use crate::Payload;
+ghost use mathlib.Core.Path.{_≡_};
+ghost use mathlib.Core.Bool.{true, false, _&&_};
+ghost use mathlib.Core.List.{[], _∷_};
+ghost use Prim.Native.Nat.{_<_, _≤_};
+ghost use lib.ListN.{length, getD, drop};
+ghost use lib.Dec.{ltb, eqb};
+ghost use Rattle.logic.specs.Sheet.{Sheet};
+ghost use Rattle.sheet.specs.Layout.{if, kindOf, rank, reached, misplaced, wrongLength, shortest, longest, all, within, occurs, illSorted, field, name, expression, same, total};
+ghost use Rattle.sheet.specs.Packed.{packed};
+ghost use Rattle.sheet.specs.Step.{bytesOf, Short};
+ghost use Rattle.sheet.specs.SoFar.{Known};
+ghost use Rattle.sheet.specs.Parts.{later};
+
+// The shortest and the longest payload of each kind, by the kind's number.
+const LIMITS: [[u8; 2]; 7] = [[0, 0], [2, 2], [1, 3], [1, 3], [2, 2], [2, 2], [1, 1]];
+
+// The most records of each kind.
+const MOST_SORTS: usize = 8;
+
+const MOST_SYMBOLS: usize = 64;
+
+const MOST_TERMS: usize = 128;
+
+const MOST_LITERALS: usize = 128;
+
+// The place of a kind in the order of the records, 0 where there is no such kind.
+fn rank_of(kind: usize) -> usize
+    ensures { λ r. ⌜ r ≡ rank (kindOf kind) ⌝ }
+{
+    match kind {
+        1 => 1,
+        2 => 2,
+        3 => 3,
+        4 => 4,
+        5 => 4,
+        6 => 5,
+        _ => 0,
+    }
+}
+
+// The rank of the last record of the sheet so far, 0 before the first.
+fn reached_by(p: Parsed) -> usize
+    ensures { λ r. ⌜ ((sh : Sheet) → p ≡ packed sh → r ≡ reached sh) ⌝ }
+{
+    if p.total != 0 {
+        return 5;
+    }
+    if p.literals != 0 {
+        return 4;
+    }
+    if p.terms != 0 {
+        return 3;
+    }
+    if p.symbols != 0 {
+        return 2;
+    }
+    if p.sorts != 0 {
+        return 1;
+    }
+    0
+}
+
+// Cause 3: no such kind, out of order, not a field first, or after the total.
+pub(crate) fn is_misplaced(p: Parsed, kind: usize) -> bool
+    ensures { λ r. ⌜ ((sh : Sheet) → p ≡ packed sh → r ≡ misplaced sh (kindOf kind)) ⌝ }
+{
+    let rank = rank_of(kind);
+    let reached = reached_by(p);
+    if rank == 0 {
+        return true;
+    }
+    if rank < reached {
+        return true;
+    }
+    if reached == 5 {
+        return true;
+    }
+    if reached != 0 {
+        return false;
+    }
+    rank != 1
+}
+
+fn shortest_of(kind: usize) -> u8
+    requires { ⌜ kind < 7 ⌝ }
+    ensures { λ r. ⌜ r ≡ shortest kind ⌝ }
+{
+    LIMITS[kind][0]
+}
+
+fn longest_of(kind: usize) -> u8
+    requires { ⌜ kind < 7 ⌝ }
+    ensures { λ r. ⌜ r ≡ longest kind ⌝ }
+{
+    LIMITS[kind][1]
+}
+
+// Cause 4: the length is not allowed for the kind.
+pub(crate) fn is_wrong_length(kind: usize, len: usize) -> bool
+    requires { ⌜ kind < 7 ⌝ }
+    ensures { λ r. ⌜ r ≡ wrongLength kind len ⌝ }
+{
+    if len < crate::wide(shortest_of(kind)) {
+        return true;
+    }
+    crate::wide(longest_of(kind)) < len
+}
+
+// A floor or a ceiling is in range.
+fn is_size(b: u8) -> bool
+    ensures { λ r. ⌜ r ≡ within 1 16 b ⌝ }
+{
+    if b < 1 {
+        return false;
+    }
+    b <= 16
+}
+
+// The causes 5 and 6 of a field.
+fn field_fault(sorts: usize, b0: u8, b1: u8) -> u8
+    ensures { λ r. ⌜ ((sh : Sheet) → sorts ≡ length (sh .bounds) → r ≡ later sh field (b0 ∷ b1 ∷ [])) ⌝ }
+{
+    if MOST_SORTS <= sorts {
+        return 5;
+    }
+    if !is_size(b0) {
+        return 6;
+    }
+    if !is_size(b1) {
+        return 6;
+    }
+    0
+}
+
+// The bytes of a payload behind its first are numbers below n.
+fn rest_below(q: Payload, n: usize) -> bool
+    requires { ⌜ Short q ⌝ }
+    ensures { λ r. ⌜ r ≡ all (λ a. ltb a n) (drop 1 (bytesOf q)) ⌝ }
+{
+    let len = q.len;
+    let b1 = crate::wide(q.b1);
+    let b2 = crate::wide(q.b2);
+    if len < 2 {
+        return true;
+    }
+    if len < 3 {
+        return b1 < n;
+    }
+    if n <= b1 {
+        return false;
+    }
+    b2 < n
+}
+
+// The causes 5 and 6 of a name.
+fn name_fault(symbols: usize, sorts: usize, q: Payload) -> u8
+    requires { ⌜ Short q ⌝ }
+    ensures { λ r. ⌜ ((sh : Sheet) → symbols ≡ length (sh .symbols) → sorts ≡ length (sh .bounds) → r ≡ later sh name (bytesOf q)) ⌝ }
+{
+    if MOST_SYMBOLS <= symbols {
+        return 5;
+    }
+    if sorts <= crate::wide(q.b0) {
+        return 6;
+    }
+    if !rest_below(q, sorts) {
+        return 6;
+    }
+    0
+}
+
+// The sort of an argument, 255 where there is none.
+fn sort_of(p: Parsed, a: u8) -> u8
+    requires { ⌜ p .terms ≤ 128 ⌝ }
+    ensures { λ r. ⌜ r ≡ if (ltb a (p .terms)) (getD (p .sort) a 0) 255 ⌝ }
+{
+    let i = crate::wide(a);
+    if i < p.terms {
+        return p.sort[i];
+    }
+    255
+}
+
+// Cause 7 of an expression: its arguments are not as many, or not of the fields, as its name takes.
+fn is_ill_sorted(p: Parsed, q: Payload) -> bool
+    requires { ⌜ Known p ⌝ }
+    requires { ⌜ Short q ⌝ }
+    requires { ⌜ (q .b0 < p .symbols) × (all (λ a. ltb a (p .terms)) (drop 1 (bytesOf q)) ≡ true) ⌝ }
+    ensures { λ r. ⌜ ((k : Known p) → r ≡ illSorted (k .sheet) expression (bytesOf q)) ⌝ }
+{
+    let f = crate::wide(q.b0);
+    if sort_of(p, q.b1) != p.param0[f] {
+        return true;
+    }
+    sort_of(p, q.b2) != p.param1[f]
+}
+
+// A symbol and arguments are those that a payload says.
+fn is_same(symbol: u8, arg0: u8, arg1: u8, q: Payload) -> bool
+    ensures { λ r. ⌜ r ≡ (eqb symbol (q .b0) && (eqb arg0 (q .b1) && eqb arg1 (q .b2))) ⌝ }
+{
+    if symbol != q.b0 {
+        return false;
+    }
+    if arg0 != q.b1 {
+        return false;
+    }
+    arg1 == q.b2
+}
+
+// Cause 8 of an expression: an earlier one has its name and arguments.
+fn is_repeated(p: Parsed, q: Payload) -> bool
+    requires { ⌜ Known p ⌝ }
+    requires { ⌜ Short q ⌝ }
+    requires { ⌜ all (λ a. ltb a (p .terms)) (drop 1 (bytesOf q)) ≡ true ⌝ }
+    ensures { λ r. ⌜ ((k : Known p) → r ≡ occurs (q .b0) (drop 1 (bytesOf q)) (k .sheet .terms)) ⌝ }
+{
+    let mut i: usize = 0;
+    while i < p.terms {
+        if is_same(p.symbol[i], p.arg0[i], p.arg1[i], q) {
+            return true;
+        }
+        i += 1;
+    }
+    false
+}
+
+// The causes 5 to 8 of an expression.
+fn term_fault(p: Parsed, q: Payload) -> u8
+    requires { ⌜ Known p ⌝ }
+    requires { ⌜ Short q ⌝ }
+    ensures { λ r. ⌜ ((k : Known p) → r ≡ later (k .sheet) expression (bytesOf q)) ⌝ }
+{
+    if MOST_TERMS <= p.terms {
+        return 5;
+    }
+    if p.symbols <= crate::wide(q.b0) {
+        return 6;
+    }
+    if !rest_below(q, p.terms) {
+        return 6;
+    }
+    if is_ill_sorted(p, q) {
+        return 7;
+    }
+    if is_repeated(p, q) {
+        return 8;
+    }
+    0
+}
+
+// The causes 5 to 7 of a statement, which are the same for both kinds.
+fn literal_fault(p: Parsed, b0: u8, b1: u8) -> u8
+    requires { ⌜ Known p ⌝ }
+    ensures { λ r. ⌜ ((k : Known p) → r ≡ later (k .sheet) same (b0 ∷ b1 ∷ [])) ⌝ }
+{
+    if MOST_LITERALS <= p.literals {
+        return 5;
+    }
+    let l = crate::wide(b0);
+    let r = crate::wide(b1);
+    if p.terms <= l {
+        return 6;
+    }
+    if p.terms <= r {
+        return 6;
+    }
+    if p.sort[l] == p.sort[r] {
+        return 0;
+    }
+    7
+}
+
+// Cause 6 of a total; a second one is misplaced.
+fn total_fault(b0: u8) -> u8
+    ensures { λ r. ⌜ ((sh : Sheet) → sh .total ≡ 0 → r ≡ later sh total (b0 ∷ [])) ⌝ }
+{
+    if b0 < 1 {
+        return 6;
+    }
+    if 128 < b0 {
+        return 6;
+    }
+    0
+}
+
+// The causes 5 to 8 of a record that is in its place and of an allowed length.
+pub(crate) fn fault(p: Parsed, kind: usize, q: Payload) -> u8
+    requires { ⌜ Known p ⌝ }
+    requires { ⌜ Short q ⌝ }
+    ensures { λ r. ⌜ ((k : Known p) → misplaced (k .sheet) (kindOf kind) ≡ false → wrongLength kind (q .len) ≡ false → r ≡ later (k .sheet) (kindOf kind) (bytesOf q)) ⌝ }
+{
+    match kind {
+        1 => field_fault(p.sorts, q.b0, q.b1),
+        2 => name_fault(p.symbols, p.sorts, q),
+        3 => term_fault(p, q),
+        4 => literal_fault(p, q.b0, q.b1),
+        5 => literal_fault(p, q.b0, q.b1),
+        6 => total_fault(q.b0),
+        _ => 0,
+    }
+}
