@@ -15,6 +15,7 @@ use Rattle.logic.specs.Problem.{Problem}
 use Rattle.logic.proofs.Meaning.{code-congruent, codes-own}
 use Rattle.sheet.specs.Packed.{first, second, bit}
 use Rattle.sheet.specs.Views.{Views}
+use Rattle.sheet.proofs.Pairs.{each-weaken}
 use Rattle.congruence.specs.Groups.{Models, Entails, Groups, Closable, alone}
 use Rattle.congruence.specs.Forced.{Forced}
 
@@ -47,10 +48,6 @@ module _ (n : ℕ) (l c : ℕ → ℕ) (keeps : (a : ℕ) → a < n → c (l a) 
   second-equal (x ∷ xs) (y ∷ ys) u v e =
       let tails : map l xs ≡ map l ys = cc in
       first-equal xs ys (u .1) (v .1) tails
-
-below-more : (m n : ℕ) → m ≤ n → (l : List ℕ) → Each (λ a. a < m) l → Each (λ a. a < n) l
-below-more m n h [] e = tt
-below-more m n h (x ∷ xs) e = (omega (arith, e .0), below-more m n h xs (e .1))
 
 bit-true : (b : Bool) → bit b ≡ 1 → b ≡ true
 bit-true true e = refl
@@ -118,8 +115,8 @@ module _ (sh : Sheet) (w : WellFormed sh) (P : Problem) (v : Views sh P) where
     labels-closed : (i j : ℕ) → i < length (sh .terms) → j < length (sh .terms) → termAt sh i .symbol ≡ termAt sh j .symbol → map l (termAt sh i .args) ≡ map l (termAt sh j .args) → l i ≡ l j
     labels-closed i j bi bj f e =
         let n = v .terms in
-        let xs = below-more i (length (sh .terms)) (omega arith) (termAt sh i .args) (w .args i bi) in
-        let ys = below-more j (length (sh .terms)) (omega arith) (termAt sh j .args) (w .args j bj) in
+        let xs = each-weaken i (length (sh .terms)) (termAt sh i .args) (omega arith) (w .args i bi) in
+        let ys = each-weaken j (length (sh .terms)) (termAt sh j .args) (omega arith) (w .args j bj) in
         g .complete i j (omega arith) (omega arith) (λ c models keeps.
         let kept = keeps-labels c models in
         models .congruent i j (omega arith) (omega arith) (v .symbol i bi ∙ f ∙ sym (v .symbol j bj))

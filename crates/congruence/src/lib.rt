@@ -16,6 +16,7 @@ pub struct Cell {
     pub second: u8,
 }
 
+// A byte as a number.
 fn wide(x: u8) -> usize
     ensures { λ r. ⌜ (r ≡ x) × (r < 256) ⌝ }
 {
@@ -75,6 +76,7 @@ fn label_of(labels: &[u8; 128], terms: usize, a: u8) -> u8
     if i < terms { labels[i] } else { a }
 }
 
+// The cell of a symbol's table at two arguments.
 fn cell_of(labels: &[u8; 128], terms: usize, f: u8, a: u8, b: u8) -> Cell
     requires { ⌜ terms ≤ 128 ⌝ }
     ensures { λ r. ⌜ r ≡ cellAt terms (at (now (labels .entry))) f a b ⌝ }
@@ -88,6 +90,7 @@ fn cell_of(labels: &[u8; 128], terms: usize, f: u8, a: u8, b: u8) -> Cell
     }
 }
 
+// Whether two cells are one.
 fn one_cell(x: Cell, y: Cell) -> bool
     ensures { λ r. ⌜ (r ≡ true → x ≡ y) × (r ≡ false → x ≡ y → ⊥) ⌝ }
 {

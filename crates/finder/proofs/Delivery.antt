@@ -13,9 +13,9 @@ use Rattle.logic.proofs.Meaning.{length-codes}
 use Rattle.sheet.specs.Layout.{Reading, accepted, reading}
 use Rattle.sheet.proofs.Answers.{accepted-well-formed}
 use Rattle.tables.specs.Layout.{extent, decoded, encoded}
-use Rattle.tables.specs.Judge.{judgedOf, judgement}
+use Rattle.judge.specs.Judge.{judgedOf, judgement}
 use Rattle.tables.specs.declared.Judgement.the-variants.{Fits}
-use Rattle.tables.proofs.Judged.{judged-says}
+use Rattle.judge.proofs.Judged.{judged-says}
 use Rattle.finder.specs.Answer.{Entry, answer, sum, structureOf}
 use Rattle.finder.specs.Find.{ceilings, answering, finding, codesAfter, tablesAfter}
 use Rattle.finder.specs.Demand.{Answers, Delivered, Promised, codesWritten, tablesWritten}

@@ -11,7 +11,7 @@ use Rattle.logic.specs.Problem.{Problem}
 use Rattle.sheet.specs.Layout.{if}
 use Rattle.codes.specs.Tested.{Put}
 use Rattle.finder.specs.Fill.{held, Filled}
-use Rattle.tables.specs.Grid.{cellAt}
+use Rattle.tables.specs.Grid.{gridCell}
 
 pub filled-none : (P : Problem) (c : ℕ → ℕ) (f i : ℕ) → Filled P c f i 0 (replicate 16 (replicate 16 0))
 filled-none P c f i row col h k =
@@ -30,12 +30,12 @@ module _ (P : Problem) (c : ℕ → ℕ) (f i n : ℕ) (t : List (List ℕ)) (re
           (ap (λ (s : Bool). if (s && (eqb (c (P .arg0 i)) row && eqb (c (P .arg1 i)) col)) (c i) (held P c f row col (suc i) n)) (eq-eqb (P .symbol i) f same)
           ∙ ap₂ (λ (x y : Bool). if (x && y) (c i) (held P c f row col (suc i) n)) p q)
 
-      elsewhere : (row ≡ c (P .arg0 i) → col ≡ c (P .arg1 i) → ⊥) → cellAt u row col ≡ held P c f row col (suc i) n
+      elsewhere : (row ≡ c (P .arg0 i) → col ≡ c (P .arg1 i) → ⊥) → gridCell u row col ≡ held P c f row col (suc i) n
       elsewhere other = put .elsewhere row col other ∙ rest row col h k
 
-      by : (a b : Bool) → eqb (c (P .arg0 i)) row ≡ a → eqb (c (P .arg1 i)) col ≡ b → cellAt u row col ≡ held P c f row col i (suc n)
+      by : (a b : Bool) → eqb (c (P .arg0 i)) row ≡ a → eqb (c (P .arg1 i)) col ≡ b → gridCell u row col ≡ held P c f row col i (suc n)
       by true true p q =
-          ap₂ (cellAt u) (sym (eqb-true (c (P .arg0 i)) row p)) (sym (eqb-true (c (P .arg1 i)) col q)) ∙ put .here ∙ test true true p q
+          ap₂ (gridCell u) (sym (eqb-true (c (P .arg0 i)) row p)) (sym (eqb-true (c (P .arg1 i)) col q)) ∙ put .here ∙ test true true p q
       by true false p q = elsewhere (λ x y. eqb-false (c (P .arg1 i)) col q (sym y)) ∙ test true false p q
       by false b p q = elsewhere (λ x y. eqb-false (c (P .arg0 i)) row p (sym x)) ∙ test false b p q
 

@@ -12,7 +12,7 @@ use Rattle.logic.specs.Box.{Range, run, fronts, box}
 use Rattle.logic.proofs.Meaning.{firsts-same}
 use Rattle.sheet.specs.Packed.{first, second}
 use Rattle.tables.specs.Layout.{tableBytes}
-use Rattle.tables.specs.Grid.{grid, cellAt}
+use Rattle.tables.specs.Grid.{grid, gridCell}
 use Rattle.tables.specs.Parts.{width}
 use Rattle.tables.proofs.Arrays.{width-there}
 use Rattle.finder.proofs.Reach.{rowOf, columnOf}
@@ -46,19 +46,19 @@ one-code g (suc n) =
     ∙ map-append g (fronts (run 0 n) ([] ∷ [])) ((n ∷ []) ∷ [])
     ∙ ap (λ (l : List ℕ). l ++ (g (n ∷ []) ∷ [])) (one-code g n)
 
-column : (t : List (List ℕ)) (g : List ℕ → ℕ) (n : ℕ) → ((r : ℕ) → r < n → cellAt t r 0 ≡ g (r ∷ [])) → grid t n 1 ≡ map g (fronts (run 0 n) ([] ∷ []))
+column : (t : List (List ℕ)) (g : List ℕ → ℕ) (n : ℕ) → ((r : ℕ) → r < n → gridCell t r 0 ≡ g (r ∷ [])) → grid t n 1 ≡ map g (fronts (run 0 n) ([] ∷ []))
 column t g n h = columns n h ∙ sym (one-code g n)
   where
-    columns : (k : ℕ) → ((r : ℕ) → r < k → cellAt t r 0 ≡ g (r ∷ [])) → grid t k 1 ≡ firsts k (λ y. g (y ∷ []))
+    columns : (k : ℕ) → ((r : ℕ) → r < k → gridCell t r 0 ≡ g (r ∷ [])) → grid t k 1 ≡ firsts k (λ y. g (y ∷ []))
     columns zero h = refl
     columns (suc k) h = ap₂ (λ (l : List ℕ) (x : ℕ). l ++ (x ∷ [])) (columns k (λ r b. h r (omega arith))) (h k (omega arith))
 
-rows : (t : List (List ℕ)) (g : List ℕ → ℕ) (n m : ℕ) → ((r c : ℕ) → r < n → c < m → cellAt t r c ≡ g (r ∷ c ∷ [])) → grid t n m ≡ map g (fronts (run 0 n) (fronts (run 0 m) ([] ∷ [])))
+rows : (t : List (List ℕ)) (g : List ℕ → ℕ) (n m : ℕ) → ((r c : ℕ) → r < n → c < m → gridCell t r c ≡ g (r ∷ c ∷ [])) → grid t n m ≡ map g (fronts (run 0 n) (fronts (run 0 m) ([] ∷ [])))
 rows t g zero m h = refl
 rows t g (suc n) m h =
     let tails = fronts (run 0 m) ([] ∷ []) in
     ap₂ (λ (x y : List ℕ). x ++ y) (rows t g n m (λ r c a b. h r c (omega arith) b))
-    (firsts-same m (cellAt t n) (λ y. g (n ∷ y ∷ [])) (λ c b. h n c (omega arith) b)
+    (firsts-same m (gridCell t n) (λ y. g (n ∷ y ∷ [])) (λ c b. h n c (omega arith) b)
     ∙ sym (one-code (λ l. g (n ∷ l)) m)
     ∙ sym (map-twice g n tails))
     ∙ sym (map-append g (fronts (run 0 n) tails) (map (λ (l : List ℕ). n ∷ l) tails))
@@ -67,7 +67,7 @@ rows t g (suc n) m h =
 -- THE BYTES of a table from its rows
 pub bytes-grid :
     (M : Structure) (f : ℕ) (params : List ℕ) (t : List (List ℕ)) → Each (λ s. s < 8) params → length params ≤ 2
-    → ((xs : List ℕ) → InSorts (M .size) params xs → cellAt t (rowOf xs) (columnOf xs) ≡ M .table f xs)
+    → ((xs : List ℕ) → InSorts (M .size) params xs → gridCell t (rowOf xs) (columnOf xs) ≡ M .table f xs)
     → grid t (width (M .size) (first params)) (width (M .size) (second params)) ≡ tableBytes M f params
 bytes-grid M f [] t there short holds = ap (λ (x : ℕ). x ∷ []) (holds [] tt)
 bytes-grid M f (a ∷ []) t there short holds =

@@ -15,7 +15,7 @@ use Rattle.logic.specs.Structure.{at, Holds}
 use Rattle.logic.proofs.Meaning.{map-each}
 use Rattle.logic.proofs.Codes.{holds-same}
 use Rattle.sheet.specs.Layout.{if, sameList}
-use Rattle.tables.specs.Judge.{holds}
+use Rattle.tables.specs.Tests.{holds}
 use Rattle.tables.proofs.Tests.{decided, both, and-both, holds-true, holds-false}
 use Rattle.finder.specs.Answer.{Cell, cellOf, cellsFrom, reachedCells, agrees, functional, allHold, solves, cellAt}
 use Rattle.finder.proofs.Lists.{Mem}

@@ -24,7 +24,7 @@ use Rattle.sheet.specs.Views.{Views}
 use Rattle.sheet.specs.declared.Parsed.{Parsed}
 use Rattle.sheet.proofs.View.{packed-views}
 use Rattle.tables.specs.Layout.{cells, offset, extent, encoded, tableBytes}
-use Rattle.tables.specs.Grid.{grid, cellAt}
+use Rattle.tables.specs.Grid.{grid, gridCell}
 use Rattle.tables.specs.Parts.{Packs, Extents, Limited, width}
 use Rattle.tables.proofs.Whole.{packs-limited}
 use Rattle.tables.proofs.Grids.{length-grid}
@@ -108,7 +108,7 @@ module _ (sh : Sheet) (p : Parsed) (k : Packs sh p) (size c : ℕ → ℕ) (sixt
   -- what stands in a cell of the filled table
   filled-cell :
       (f : ℕ) → f < length (sh .symbols) → (t : List (List ℕ)) → Filled (view p) c f 0 (p .terms) t
-      → (xs : List ℕ) → InSorts (M .size) (symbolAt sh f .params) xs → cellAt t (rowOf xs) (columnOf xs) ≡ M .table f xs
+      → (xs : List ℕ) → InSorts (M .size) (symbolAt sh f .params) xs → gridCell t (rowOf xs) (columnOf xs) ≡ M .table f xs
   unfolding unforced
   filled-cell f h t filled xs i =
       let v = packs-views sh p k in

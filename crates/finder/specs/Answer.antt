@@ -11,7 +11,7 @@ use Rattle.logic.specs.Structure.{Structure, at, sumTo}
 use Rattle.logic.specs.Order.{firsts}
 use Rattle.logic.specs.Box.{Range, run, box}
 use Rattle.sheet.specs.Layout.{if, sameList}
-use Rattle.tables.specs.Judge.{holds}
+use Rattle.tables.specs.Tests.{holds}
 
 -- Lists: what f gives of each entry, one after the other; the entries that pass a test; the first that does; the sum. (What a `let` binds
 -- is computed only where it is wanted, so that the worked sheets compute.)

@@ -11,7 +11,7 @@ use Rattle.logic.specs.Problem.{Problem}
 use Rattle.sheet.specs.Layout.{if}
 use Rattle.sheet.specs.declared.Parsed.{Parsed}
 use Rattle.tables.specs.Layout.{extent, encoded}
-use Rattle.tables.specs.Grid.{cellAt}
+use Rattle.tables.specs.Grid.{gridCell}
 use Rattle.tables.specs.Parts.{Packs}
 use Rattle.finder.specs.Answer.{Entry, entryOf, sum, structureOf}
 use Rattle.finder.specs.Find.{fronted}
@@ -27,7 +27,7 @@ held P c f row col i (suc n) = if (reaches P c f row col i) (c i) (held P c f ro
 
 -- a table of 16 rows of 16 codes holds what the n terms from i on say
 abbrev pub Filled : Problem → (ℕ → ℕ) → ℕ → ℕ → ℕ → List (List ℕ) → Type 0
-Filled P c f i n t = (row col : ℕ) → row < 16 → col < 16 → cellAt t row col ≡ held P c f row col i n
+Filled P c f i n t = (row col : ℕ) → row < 16 → col < 16 → gridCell t row col ≡ held P c f row col i n
 
 -- What the writers of the answer ask: a parsed sheet that stands for an accepted sheet, sizes of at most 16 codes, codes that fit a table and
 -- are 0 past the terms, and room for the tables.

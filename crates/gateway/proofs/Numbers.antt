@@ -1,0 +1,49 @@
+-- Places and statement numbers are small, so that every answer fits one number of 32 bits.
+use Prim.Native.Nat.{ℕ, _≤_, _<_}
+use native.Mathlib.Decide.{decLe}
+use native.Mathlib.Omega.{arith}
+use mathlib.Core.Path.{_≡_, refl, sym, _∙_}
+use mathlib.Core.Bool.{Bool, true, false, _||_}
+use mathlib.Core.List.{List}
+use lib.ListN.{length}
+use lib.Dec.{eqb, ltb}
+use borrow.Author.Tests.{lt-ltb}
+use Rattle.sheet.specs.Layout.{Reading, accepted, refused, reading, readFrom, empty, if}
+use Rattle.sheet.proofs.Answers.{refused-place, accepted-well-formed}
+use Rattle.judge.specs.Judge.{judgement, judgedOf, judged}
+use Rattle.judge.proofs.Judged.{judged-says}
+use Rattle.tables.specs.declared.Judgement.{Judgement}
+use Rattle.tables.specs.declared.Judgement.the-variants.{Fits, OutOfBounds, Broken, Refused}
+
+or-true : (a b : Bool) → b ≡ true → (a || b) ≡ true
+or-true true b e = refl
+or-true false b e = e
+
+-- a sheet that is too long is refused at place 0
+too-long : (s : List ℕ) → 4096 < length s → reading s ≡ refused 1 0
+unfolding reading
+too-long s h = rw (or-true (eqb (length s) 0) (ltb 4096 (length s)) (lt-ltb 4096 (length s) h))
+
+-- a refused sheet's place is small
+pub reading-place : (s : List ℕ) (n i : ℕ) → reading s ≡ refused n i → i ≤ 4096
+reading-place s n i e = by (decLe (length s) 4096)
+  where
+    by : Dec (length s ≤ 4096) → i ≤ 4096
+    by (yes h) = omega (arith, refused-place s n i e)
+    by (no h) = let z : i ≡ 0 = cc (too-long s (omega arith)) in omega arith
+
+pub judge-place : (s t : List ℕ) (n i : ℕ) → judgement s t ≡ Refused n i → i < 65536
+unfolding judgement
+judge-place s t n i e = by (reading s) refl e
+  where
+    by : (r : Reading) → reading s ≡ r → judgedOf r t ≡ Refused n i → i < 65536
+    by (accepted sh) q z = omega (arith, judged-says sh t (Refused n i) .0 z .1)
+    by (refused m j) q z = let same : j ≡ i = cc in omega (arith, reading-place s m j q)
+
+pub judge-broken : (s t : List ℕ) (k : ℕ) → judgement s t ≡ Broken k → k < 128
+unfolding judgement
+judge-broken s t k e = by (reading s) refl e
+  where
+    by : (r : Reading) → reading s ≡ r → judgedOf r t ≡ Broken k → k < 128
+    by (accepted sh) q z = omega (arith, judged-says sh t (Broken k) .0 z .2, accepted-well-formed s sh q .literals)
+    by (refused m j) q z = let never : _≡_ {A = ℕ} 0 1 = cc in omega arith
