@@ -121,13 +121,14 @@ pub fn store(bytes: &mut [u8; 512], at: usize, x: usize) {
     bytes[k] = byte(x);
 }
 
-fn start_of(s: Shape, symbol: usize) -> usize {
+// Where a symbol's cells start.
+pub fn start_of(s: Shape, symbol: usize) -> usize {
     let k = symbol % 8;
     s.start[k]
 }
 
 // Where a symbol's cells end: the next one's start, or the end of the tables.
-fn end_of(p: Plan, s: Shape, symbol: usize) -> usize {
+pub fn end_of(p: Plan, s: Shape, symbol: usize) -> usize {
     if plus(symbol, 1) < p.symbols {
         return start_of(s, plus(symbol, 1));
     }

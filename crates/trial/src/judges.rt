@@ -1,4 +1,6 @@
-// Judge on tables of every size around the bounds, against what the literals say of their codes, and on damaged tables.
+// Judge and table of a name on tables of every size around the bounds, against what the literals say of their codes, and on damaged
+// tables.
+use crate::stretches;
 use crate::tally::BROKEN;
 use crate::tally::DAMAGED;
 use crate::tally::FITS;
@@ -70,6 +72,7 @@ fn some_tables(p: Plan, s: Shape, sheet: &[u8], counts: &mut [u64; 32]) {
 
 // Tables within bounds fit, or break a first literal.
 fn one_table(p: Plan, s: Shape, tables: &[u8; 512], sheet: &[u8], counts: &mut [u64; 32]) {
+    stretches::compare(p, s, tables, sheet, counts);
     let got = asked(sheet, part(tables, s.length));
     let broken = first_broken(p, evaluate(p, s, tables));
     if broken < p.literals {
@@ -84,6 +87,7 @@ fn first_tables(p: Plan, s: Shape, sheet: &[u8], counts: &mut [u64; 32]) {
     let mut tables = [0u8; 512];
     let mut limit = [0u8; 512];
     begin(p, s, &mut tables, &mut limit);
+    stretches::compare(p, s, &tables, sheet, counts);
     let got = asked(sheet, part(&tables, s.length));
     expect(got == 1, OUT_OF_BOUNDS, b"judge", sheet, counts);
 }
@@ -94,6 +98,7 @@ fn damaged(p: Plan, s: Shape, way: usize, sheet: &[u8], counts: &mut [u64; 32]) 
     let mut limit = [0u8; 512];
     begin(p, s, &mut tables, &mut limit);
     let n = damage(p, s.length, way, &mut tables, &limit);
+    stretches::nothing(part(&tables, n), 0, sheet, counts);
     let got = asked(sheet, part(&tables, n));
     expect(got == 1012, DAMAGED, b"judge", sheet, counts);
 }

@@ -2,6 +2,7 @@
 // all interpretations. The numbers printed are fixed by the seed; a difference is printed with its sheet.
 mod forces;
 mod judges;
+mod stretches;
 mod tally;
 
 use listing::plan::Plan;

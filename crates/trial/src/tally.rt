@@ -36,7 +36,11 @@ pub const FREE: usize = 17;
 
 pub const NO_PAIR: usize = 18;
 
-pub const DIFFERENCES: usize = 19;
+pub const STRETCH: usize = 19;
+
+pub const EMPTY: usize = 20;
+
+pub const DIFFERENCES: usize = 21;
 
 pub fn add(counts: &mut [u64; 32], at: usize, n: usize) {
     let k = at % 32;
@@ -103,6 +107,8 @@ pub fn report(counts: &[u64; 32]) {
     line(b"- out of bounds", counts, OUT_OF_BOUNDS);
     line(b"- broken statement", counts, BROKEN);
     line(b"- refused 12, damaged tables", counts, DAMAGED);
+    line(b"table of a name: tables", counts, STRETCH);
+    line(b"- empty, no such name or damaged tables", counts, EMPTY);
     line(b"forced: sheets", counts, SETTLED);
     line(b"- interpretations listed", counts, STRUCTURES);
     line(b"- yes", counts, FORCED);
