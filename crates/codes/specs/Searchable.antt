@@ -13,8 +13,9 @@ pub record Searchable (p : Parsed) : Type 0 where
   pub literals : p .literals ≤ 128
   -- a term's symbol is there
   pub symbol : (i : ℕ) → i < p .terms → at (p .symbol) i < p .symbols
-  -- no sort has more than 16 codes
+  -- no sort has more than 16 codes, and all have at most 128
   pub ceiling : (s : ℕ) → s < p .sorts → at (p .ceiling) s ≤ 16
+  pub total : p .total ≤ 128
 
 -- sizes of at most 16 codes each, so that a table has at most 16 rows of 16
 abbrev pub Small : Parsed → (ℕ → ℕ) → Type 0

@@ -9,7 +9,7 @@ ghost use Rattle.codes.specs.Searchable.{Searchable, Small};
 ghost use Rattle.codes.specs.Tested.{Decides, Padded, InRange, Meets, Hold, Functional, cell, Put};
 
 // A byte as an index.
-fn wide(x: u8) -> usize
+pub fn wide(x: u8) -> usize
     ensures { λ r. ⌜ (r ≡ x) × (r < 256) ⌝ }
 {
     x as usize

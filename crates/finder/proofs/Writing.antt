@@ -32,7 +32,7 @@ use Rattle.tables.proofs.Arrays.{param0-packed, param1-packed, params-below-8, 
 use Rattle.finder.specs.Answer.{Cell, Entry, entryOf, structureOf, cellsFrom, unforced}
 use Rattle.finder.specs.Answer as Answer
 use Rattle.finder.specs.Fill.{Filled, held, Writable, answerBytes}
-use Rattle.finder.specs.Find.{fronted}
+use Rattle.finder.specs.Find.{ceilings, fronted}
 use Rattle.finder.proofs.Reach.{rowOf, columnOf, cell-held}
 use Rattle.finder.proofs.Grid.{bytes-grid}
 use Rattle.finder.proofs.Encoding.{length-encoded, encoded-sizes, encoded-more, encoded-whole}
@@ -174,6 +174,13 @@ module _ (sh : Sheet) (p : Parsed) (k : Packs sh p) (size c : ℕ → ℕ) (sixt
   written-all d d′ so-far =
       so-far
       ∙ ap₂ (λ (l : List ℕ) (n : ℕ). l ++ drop n d) (encoded-whole sh w M) (sym (length-encoded sh w M))
+
+-- the end of the tables with every size at its ceiling
+pub ceilings-extent : (p : Parsed) (offsets : List ℕ) → Extents p (at (p .ceiling)) offsets → (sh : Sheet) → Packs sh p → at offsets (p .symbols) ≡ extent sh (ceilings sh)
+ceilings-extent p offsets x sh k =
+    ap (at offsets) (symbols-packed sh p k)
+    ∙ x .offset sh k (length (sh .symbols)) (omega arith)
+    ∙ offset-same sh (k .formed) (at (p .ceiling)) (ceilings sh) (packs-views sh p k .ceiling) (length (sh .symbols)) (omega arith)
 
 -- What the loop over the symbols keeps.
 pub record TablesTo (p : Parsed) (size c : ℕ → ℕ) (offsets d : List ℕ) (f : ℕ) (d′ : List ℕ) : Type 0 where

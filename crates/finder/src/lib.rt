@@ -1,5 +1,6 @@
 // The question "find": its answer by definition, demand 3, and the worked sheets (specs/, proofs/).
 use sheet::Parsed;
+use sheet::wide;
 ghost use mathlib.Core.Path.{_≡_};
 ghost use Prim.Native.Nat.{ℕ, _≤_, _<_};
 ghost use Rattle.logic.specs.Structure.{at, sumTo};
@@ -7,8 +8,9 @@ ghost use Rattle.sheet.specs.Packed.{view};
 ghost use lib.ListN.{length, take};
 ghost use Rattle.logic.specs.Sheet.{Sheet};
 ghost use Rattle.logic.specs.Order.{firsts};
-ghost use Rattle.tables.specs.Parts.{Packs};
-ghost use Rattle.finder.specs.Find.{fronted};
+ghost use Rattle.tables.specs.Layout.{extent};
+ghost use Rattle.tables.specs.Parts.{Packs, Limited};
+ghost use Rattle.finder.specs.Find.{ceilings, fronted};
 ghost use Rattle.finder.specs.Fill.{Filled, Writable, AnswerWritten, answerBytes};
 
 // The answer to the question "find".
@@ -16,12 +18,6 @@ pub enum Finding {
     // the sum of the sizes
     Found { sum: usize },
     Refused { number: u8, place: usize },
-}
-
-fn wide(x: u8) -> usize
-    ensures { λ r. ⌜ (r ≡ x) × (r < 256) ⌝ }
-{
-    x as usize
 }
 
 // The table of a symbol. The first term that reaches a cell decides; a cell that no term reaches holds the unforced code 0.
@@ -93,4 +89,15 @@ fn write_answer(
     bytes::copy(&sizes[..sorts], table_out);
     write_tables(table_out, p, sizes, codes);
     sum_of(sizes, sorts)
+}
+
+// The length of the tables with every size at its ceiling.
+fn longest(p: Parsed) -> usize
+    requires { ⌜ Limited p ⌝ }
+    ensures { λ r. ⌜ ((sh : Sheet) → Packs sh p → r ≡ extent sh (ceilings sh)) ⌝ }
+{
+    let highest = p.ceiling;
+    let offsets = tables::extents(p, highest);
+    let end = p.symbols;
+    offsets[end]
 }

@@ -9,13 +9,14 @@ use mathlib.Core.List.{List}
 use lib.ListN.{length}
 use Rattle.logic.specs.Sheet.{Sheet, Literal, literalAt}
 use Rattle.logic.specs.Structure.{at, code, Bounded}
+use Rattle.sheet.specs.Layout.{accepted, refused, reading}
 use Rattle.tables.specs.declared.Judgement.{Judgement}
 use Rattle.tables.specs.declared.Judgement.the-variants.{Fits, OutOfBounds, Broken, Refused}
 use Rattle.tables.specs.Layout.{decoded, WellLaid}
 use Rattle.tables.specs.Tests.{wellLaid, inBounds, holds, statements}
 use Rattle.tables.proofs.Tests.{decided, true-not-false, holds-true, holds-false}
 use Rattle.tables.proofs.Laid.{well-laid-test, in-bounds-test, first-failing, statements-fit, statements-broken, laid-interprets}
-use Rattle.judge.specs.Judge.{judged, Says}
+use Rattle.judge.specs.Judge.{judged, judgement, Says}
 
 module _ (sh : Sheet) (t : List ℕ) where
   -- the codes that the tables give the terms
@@ -85,3 +86,12 @@ says-once sh t (Refused m h) (Refused n i) x y = cc (x .0, x .1, y .0, y .1)
 pub judged-says : (sh : Sheet) (t : List ℕ) (j : Judgement) → (judged sh t ≡ j) ↔ Says sh t j
 judged-says sh t j =
     (λ e. subst (Says sh t) e (says-judged sh t), λ s. says-once sh t (judged sh t) j (says-judged sh t) s)
+
+-- The same of the bytes of a sheet: reading refuses it, or what the reply says of its sheet is so.
+pub judgement-refused : (s t : List ℕ) (n i : ℕ) → reading s ≡ refused n i → judgement s t ≡ Refused n i
+unfolding judgement
+judgement-refused s t n i e = rw e refl
+
+pub judgement-says : (s t : List ℕ) (sh : Sheet) → reading s ≡ accepted sh → (j : Judgement) → (judgement s t ≡ j) ↔ Says sh t j
+unfolding judgement
+judgement-says s t sh e j = rw e (judged-says sh t j)

@@ -1,3 +1,4 @@
 pub mod Judged
 pub mod Replies
+pub mod Stretches
 pub mod Questions

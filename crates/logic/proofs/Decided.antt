@@ -6,7 +6,7 @@ use mathlib.Core.List.{List, [], _∷_}
 use mathlib.Core.Logic.{_⊎_, inl, inr}
 use native.Mathlib.Omega.{arith}
 use native.Mathlib.Decide.{decLt, ℕ-discrete}
-use lib.ListN.{length, getD, set}
+use lib.ListN.{length, getD, set, replicate}
 use lib.Seq.{getD-set-same, getD-set-other, set-out}
 use lib.Dec.{eqb}
 use borrow.Author.Tests.{eq-eqb, ne-eqb}
@@ -64,3 +64,9 @@ decide-fewer [] i v u n = absurd (zero-decided u)
     zero-decided e = omega arith
 decide-fewer (x ∷ xs) zero v u n = rw (ne-eqb v undecided n, eq-eqb x undecided u) (omega arith)
 decide-fewer (x ∷ xs) (suc i) v u n = let h = decide-fewer xs i v u n in omega arith
+
+-- a list of zeros holds 0 everywhere
+pub at-zeros : (n i : ℕ) → at (replicate n 0) i ≡ 0
+at-zeros zero i = refl
+at-zeros (suc n) zero = refl
+at-zeros (suc n) (suc i) = at-zeros n i

@@ -235,22 +235,6 @@ fn conflict<'a>(words: &'a [u16; 128], marks: &'a [u64; 256], n: usize) -> usize
     MOST
 }
 
-// The nearest earlier term of the same symbol; 255 where there is none.
-fn earlier_terms(symbol: &[u8; 128], n: usize) -> [u8; 128]
-    requires { ⌜ n ≤ 128 ⌝ }
-{
-    let mut earlier = [255u8; 128];
-    let mut last = [255u8; 256];
-    let mut i: usize = 0;
-    while i < n {
-        let f = wide(symbol[i]);
-        earlier[i] = last[f];
-        last[f] = i as u8;
-        i += 1;
-    }
-    earlier
-}
-
 // All rules once; says whether another round may find more.
 fn round<'a>(
     labels: &mut [u8; 128],
@@ -260,19 +244,19 @@ fn round<'a>(
     arg0: &'a [u8; 128],
     arg1: &'a [u8; 128],
     sort: &'a [u8; 128],
-    earlier: &'a [u8; 128],
     n: usize,
 ) -> bool
     requires { ⌜ n ≤ 128 ⌝ }
     ensures { λ _. ⌜ Kept (Lawful n (now (symbol .entry)) (now (arg0 .entry)) (now (arg1 .entry))) (Knows (now (labels .entry)) (now (words .entry)) (now (marks .entry))) (Knows (now (labels .exit)) (now (words .exit)) (now (marks .exit))) ⌝ }
 {
-    let mut news = join_congruent(labels, words, marks, symbol, arg0, arg1, n);
+    let mut fresh = [0u8; 128];
+    let mut news = join_congruent(labels, words, marks, &mut fresh, symbol, arg0, arg1, n);
     news = join_singles(labels, words, marks, sort, n) | news;
     news = strike_marked(words, labels, marks, n) | news;
-    if conflict(words, marks, n) < MOST {
-        return false;
+    if news {
+        return conflict(words, marks, n) == MOST;
     }
-    mark_arguments(marks, labels, words, symbol, arg0, arg1, earlier, n) | news
+    mark_arguments(marks, labels, words, symbol, arg0, arg1, &fresh, n)
 }
 
 // The rules until they find nothing new.
@@ -284,7 +268,6 @@ fn rounds<'a>(
     arg0: &'a [u8; 128],
     arg1: &'a [u8; 128],
     sort: &'a [u8; 128],
-    earlier: &'a [u8; 128],
     n: usize,
 )
     requires { ⌜ n ≤ 128 ⌝ }
@@ -293,7 +276,7 @@ fn rounds<'a>(
     let mut news = true;
     let mut done: usize = 0;
     while news && done < ROUNDS {
-        news = round(labels, words, marks, symbol, arg0, arg1, sort, earlier, n);
+        news = round(labels, words, marks, symbol, arg0, arg1, sort, n);
         done += 1;
     }
 }
@@ -383,7 +366,6 @@ pub fn propagate(p: Parsed, sizes: [u8; 8], decided: [u8; 256]) -> Outcome
         m,
     );
     mark_differ(&mut marks, &labels, &p.equal, &p.left, &p.right, m);
-    let earlier = earlier_terms(&p.symbol, n);
     rounds(
         &mut labels,
         &mut words,
@@ -392,7 +374,6 @@ pub fn propagate(p: Parsed, sizes: [u8; 8], decided: [u8; 256]) -> Outcome
         &p.arg0,
         &p.arg1,
         &p.sort,
-        &earlier,
         n,
     );
     let g = conflict(&words, &marks, n);

@@ -176,6 +176,7 @@ fn meet_key<'a>(
     marks: &mut [u64; 256],
     table: &mut [u8; 256],
     keys: &mut [u32; 256],
+    fresh: &mut [u8; 128],
     symbol: &'a [u8; 128],
     arg0: &'a [u8; 128],
     arg1: &'a [u8; 128],
@@ -194,16 +195,18 @@ fn meet_key<'a>(
     if j == 255 {
         table[h] = i as u8;
         keys[h] = k;
+        fresh[i] = 1;
         return false;
     }
     congruent(labels, words, marks, symbol, arg0, arg1, n, i, j)
 }
 
-// R3: terms of one symbol whose arguments have equal labels are one group.
+// R3: terms of one symbol whose arguments have equal labels are one group; fresh becomes 1 at the first of each such group.
 pub fn join_congruent<'a>(
     labels: &mut [u8; 128],
     words: &mut [u16; 128],
     marks: &mut [u64; 256],
+    fresh: &mut [u8; 128],
     symbol: &'a [u8; 128],
     arg0: &'a [u8; 128],
     arg1: &'a [u8; 128],
@@ -223,6 +226,7 @@ pub fn join_congruent<'a>(
             marks,
             &mut table,
             &mut keys,
+            fresh,
             symbol,
             arg0,
             arg1,
@@ -301,6 +305,32 @@ pub fn strike_marked<'a>(
     news
 }
 
+// For each fresh term that has the argument `there`, the nearest earlier one with the same symbol and the same label of the argument
+// `by`, 255 where there is none; now and then one with another label.
+fn buckets<'a>(
+    labels: &'a [u8; 128],
+    symbol: &'a [u8; 128],
+    there: &'a [u8; 128],
+    by: &'a [u8; 128],
+    fresh: &'a [u8; 128],
+    n: usize,
+) -> [u8; 128]
+    requires { ⌜ n ≤ 128 ⌝ }
+{
+    let mut earlier = [255u8; 128];
+    let mut last = [255u8; 256];
+    let mut i: usize = 0;
+    while i < n {
+        if fresh[i] == 1 && there[i] != 255 {
+            let h = (wide(symbol[i]) * 37 + argument(labels, by, i) % 256 * 11) % 256;
+            earlier[i] = last[h];
+            last[h] = i as u8;
+        }
+        i += 1;
+    }
+    earlier
+}
+
 // R4 of two terms: where their results differ and all argument pairs but one are equal, that pair differs.
 fn contrapose<'a>(
     marks: &mut [u64; 256],
@@ -366,8 +396,8 @@ fn contrapose_row<'a>(
     news
 }
 
-// R4: where the results of one symbol differ and all argument pairs but one are equal, that pair differs.
-pub fn mark_arguments<'a>(
+// R4 of each term and the earlier terms of its bucket.
+fn contrapose_all<'a>(
     marks: &mut [u64; 256],
     labels: &'a [u8; 128],
     words: &'a [u16; 128],
@@ -387,4 +417,25 @@ pub fn mark_arguments<'a>(
         news = contrapose_row(marks, labels, words, symbol, arg0, arg1, earlier, n, i) | news;
     }
     news
+}
+
+// R4: where the results of one symbol differ and all argument pairs but one are equal, that pair differs. The terms to compare with share
+// the second argument, or the lack of one, or the first.
+pub fn mark_arguments<'a>(
+    marks: &mut [u64; 256],
+    labels: &'a [u8; 128],
+    words: &'a [u16; 128],
+    symbol: &'a [u8; 128],
+    arg0: &'a [u8; 128],
+    arg1: &'a [u8; 128],
+    fresh: &'a [u8; 128],
+    n: usize,
+) -> bool
+    requires { ⌜ n ≤ 128 ⌝ }
+    ensures { λ _. ⌜ Kept (Settled n (now (symbol .entry)) (now (arg0 .entry)) (now (arg1 .entry)) (now (labels .entry)) (now (words .entry))) (Marks (now (marks .entry))) (Marks (now (marks .exit))) ⌝ }
+{
+    let firsts = buckets(labels, symbol, arg0, arg1, fresh, n);
+    let news = contrapose_all(marks, labels, words, symbol, arg0, arg1, &firsts, n);
+    let seconds = buckets(labels, symbol, arg1, arg0, fresh, n);
+    contrapose_all(marks, labels, words, symbol, arg0, arg1, &seconds, n) | news
 }

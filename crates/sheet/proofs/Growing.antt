@@ -293,7 +293,7 @@ grown sh so k p e = go k p (fine sh k p e)
 pub empty-sofar : SoFar empty
 empty-sofar =
     record {
-      begun = λ h. h′ h;
+      begun = λ h. h;
       sorts = omega arith;
       symbols = omega arith;
       terms = omega arith;
@@ -312,6 +312,3 @@ empty-sofar =
       right = λ i h. absurd (omega arith);
       sides = λ i h. absurd (omega arith);
     }
-  where
-    h′ : 1 ≤ reached empty → 1 ≤ 0
-    h′ h = h

@@ -180,7 +180,7 @@ pub(crate) struct Taken {
 }
 
 // A byte as a position.
-pub(crate) fn wide(x: u8) -> usize
+pub fn wide(x: u8) -> usize
     ensures { λ r. ⌜ (r ≡ x) × (r < 256) ⌝ }
 {
     x as usize

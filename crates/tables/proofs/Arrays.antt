@@ -27,12 +27,12 @@ use Rattle.tables.specs.Layout.{cells, place, offset, decoded}
 use Rattle.tables.specs.Tests.{every, entriesRight, inBounds, agree, holds, statements}
 use Rattle.tables.specs.declared.Judgement.the-variants.{Fits, Broken}
 use Rattle.tables.proofs.Laid.{statements-fit, statements-broken}
-use Rattle.tables.specs.Parts.{Packs, width, CellsOf, Small, Extents, Laying}
+use Rattle.tables.specs.Parts.{Packs, mostCells, mostBytes, width, CellsOf, Small, Extents, Laying}
 use Rattle.tables.proofs.Cells.{cells-same, place-same}
 use Rattle.tables.proofs.Tests.{every-more, false-every, and-first, and-second, true-within}
 
--- two bytes multiply to at most 255 * 255
-pub product-small : (a b : ℕ) → a < 256 → b < 256 → a * b ≤ 65025
+-- two bytes multiply to no more than two sizes may
+pub product-small : (a b : ℕ) → a < 256 → b < 256 → a * b ≤ mostCells
 product-small a b h l = mul-le-mul {n₁ = a} {m₁ = b} {n₂ = 255} {m₂ = 255} (omega arith) (omega arith)
 
 -- the arrays of symbols hold what the list of symbols says
@@ -119,7 +119,7 @@ copied-more l t i v h e c k b =
 -- the offsets up to that of table f
 pub record OffsetsTo (p : Parsed) (size : ℕ → ℕ) (f : ℕ) (offsets : List ℕ) : Type 0 where
   pub offset : (sh : Sheet) → Packs sh p → (g : ℕ) → g ≤ f → at offsets g ≡ offset sh size g
-  pub here : at offsets f ≤ 8 + 65025 * f
+  pub here : at offsets f ≤ 8 + mostCells * f
   pub small : Small offsets
 
 -- numbers stay small after a small one is stored
@@ -140,14 +140,14 @@ offsets-none p size h =
           let s : p .sorts ≡ length (sh .bounds) = ap (λ (q : Parsed). q .sorts) (k .same) in
           rw (e, s) (omega arith);
       here = omega arith;
-      small = set-small (replicate 65 0) 0 (p .sorts) 4161608 (λ j. rw (at-zeros 65 j) (omega arith)) (omega arith);
+      small = set-small (replicate 65 0) 0 (p .sorts) mostBytes (λ j. rw (at-zeros 65 j) (omega arith)) (omega arith);
     }
 
 pub offsets-more : (p : Parsed) (size : ℕ → ℕ) (f : ℕ) (offsets : List ℕ) (many : ℕ) → OffsetsTo p size f offsets → length offsets ≡ 65 → f < p .symbols → p .symbols ≤ 64 → CellsOf p size f many → OffsetsTo p size (f + 1) (set offsets (f + 1) (at offsets f + many))
 offsets-more p size f offsets many o n h l c =
     let v = at offsets f + many in
     let now : at (set offsets (f + 1) v) (f + 1) ≡ v = getD-set-same offsets (f + 1) v 0 (omega arith) in
-    let big : v ≤ 8 + 65025 * (f + 1) = omega (arith, o .here, c .small) in
+    let big : v ≤ 8 + mostCells * (f + 1) = omega (arith, o .here, c .small) in
     record {
       offset = λ sh k g b.
           let there : f < length (sh .symbols) = omega (arith, symbols-packed sh p k) in
@@ -158,7 +158,7 @@ offsets-more p size f offsets many o n h l c =
                 rw (e, now, add-one f) (omega (arith, o .offset sh k f (omega arith), c .cells sh k there))
           ];
       here = rw now big;
-      small = set-small offsets (f + 1) v 4161608 (o .small) (omega arith);
+      small = set-small offsets (f + 1) v mostBytes (o .small) (omega arith);
     }
 
 pub offsets-all : (p : Parsed) (size : ℕ → ℕ) (offsets : List ℕ) → OffsetsTo p size (p .symbols) offsets → Extents p size offsets

@@ -1,5 +1,5 @@
 -- What the parts of judge promise. A parsed sheet stands for a sheet where it packs one; sizes and offsets are lists of numbers.
-use Prim.Native.Nat.{ℕ, _≤_, _<_}
+use Prim.Native.Nat.{ℕ, _+_, _*_, _≤_, _<_}
 use mathlib.Core.Path.{_≡_}
 use mathlib.Core.List.{List}
 use lib.ListN.{length}
@@ -24,17 +24,24 @@ pub record Limited (p : Parsed) : Type 0 where
   pub terms : p .terms ≤ 128
   pub literals : p .literals ≤ 128
 
+-- two bytes as sizes give a table no more cells, and 8 sizes with 64 such tables have no more bytes: enough to count with
+abbrev pub mostCells : ℕ
+mostCells = 255 * 255
+
+abbrev pub mostBytes : ℕ
+mostBytes = 8 + 64 * mostCells
+
 -- how many rows or columns a parameter gives a table: the size of its sort, 1 where it is missing
 abbrev pub width : (ℕ → ℕ) → ℕ → ℕ
 width size s = if (ltb s 8) (size s) 1
 
 pub record CellsOf (p : Parsed) (size : ℕ → ℕ) (f r : ℕ) : Type 0 where
   pub cells : (sh : Sheet) → Packs sh p → f < length (sh .symbols) → r ≡ cells size (symbolAt sh f .params)
-  pub small : r ≤ 65025
+  pub small : r ≤ mostCells
 
 -- no offset is too large to count with
 abbrev pub Small : List ℕ → Type 0
-Small offsets = (f : ℕ) → at offsets f ≤ 4161608
+Small offsets = (f : ℕ) → at offsets f ≤ mostBytes
 
 -- the offsets of all tables, and the end of the last one behind them
 pub record Extents (p : Parsed) (size : ℕ → ℕ) (offsets : List ℕ) : Type 0 where

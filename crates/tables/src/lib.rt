@@ -13,7 +13,7 @@ ghost use Rattle.sheet.specs.Layout.{within};
 ghost use Rattle.tables.specs.Layout.{decoded};
 ghost use Rattle.tables.specs.Tests.{every, entriesRight, inBounds, agree, statements, wellLaid};
 ghost use Rattle.tables.specs.Grid.{grid};
-ghost use Rattle.tables.specs.Parts.{Packs, Limited, width, CellsOf, Small, Extents, Laying};
+ghost use Rattle.tables.specs.Parts.{Packs, Limited, mostCells, mostBytes, width, CellsOf, Small, Extents, Laying};
 
 // The answer to the question "judge".
 pub enum Judgement {
@@ -115,7 +115,7 @@ pub fn sizes_of(n: usize, t: &[u8]) -> [u8; 8]
 
 // All n entries from a place on are below the bound.
 fn below(t: &[u8], from: usize, n: usize, bound: usize) -> bool
-    requires { ⌜ (from ≤ 4161608) × (n ≤ 65025) ⌝ }
+    requires { ⌜ (from ≤ mostBytes) × (n ≤ mostCells) ⌝ }
     ensures { λ r. ⌜ r ≡ every n (λ k. ltb (at (now (t .entry)) (from + k)) bound) ⌝ }
 {
     let mut k: usize = 0;

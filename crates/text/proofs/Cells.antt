@@ -17,9 +17,9 @@ pub record CellsWritten (d : List ℕ) (from : ℕ) (cells d′ : List ℕ) (r i
   pub short : length (spaced (take i cells)) ≤ 4 * i
   pub within : i ≤ length cells
 
-pub none-written : (d : List ℕ) (from : ℕ) (cells : List ℕ) → CellsWritten d from cells d from 0
-none-written d from cells =
-    record { wrote = record { end = sym (add-zero from); held = sym (pasted-none d from) }; short = omega arith; within = omega arith }
+pub none-written : (d : List ℕ) (from : ℕ) (cells : List ℕ) → from ≤ length d → CellsWritten d from cells d from 0
+none-written d from cells room =
+    record { wrote = record { end = sym (add-zero from); within = room; held = sym (pasted-none d from) }; short = omega arith; within = omega arith }
 
 spaced-append : (s t : List ℕ) → spaced (s ++ t) ≡ spaced s ++ spaced t
 spaced-append [] t = refl

@@ -68,6 +68,7 @@ module _ (d : List ℕ) (i : ℕ) (s d′ : List ℕ) (e : ℕ) (room : i + leng
   wrote-then t d″ r v =
       record {
         end = omega (arith, w .end, v .end, length-append s t);
+        within = omega (arith, v .within, wrote-length);
         held =
             v .held
             ∙ ap (λ (l : List ℕ). pasted l e t) (w .held)

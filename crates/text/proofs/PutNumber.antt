@@ -18,6 +18,7 @@ module _ (d : List ℕ) (i n : ℕ) (room : i + length (decimal n) ≤ length d)
       let e : length (decimal n) ≡ 1 = last-digit h in
       record {
         end = rw e refl;
+        within = omega arith;
         held = ap (λ (v : ℕ). set d i (48 + v)) same ∙ pasted-one d i (48 + n) (omega arith) ∙ ap (pasted d i) (sym (decimal-small n h));
       }
 
@@ -35,4 +36,4 @@ module _ (d : List ℕ) (i n : ℕ) (room : i + length (decimal n) ≤ length d)
     digit-behind =
         rw (decimal-large n h)
         (wrote-then d i (decimal (n / 10)) last end (omega (arith, shorter)) w ((48 + n % 10) ∷ []) (set last end (48 + n % 10)) (end + 1)
-        (record { end = refl; held = pasted-one last end (48 + n % 10) fits-behind }))
+        (record { end = refl; within = omega (arith, fits-behind); held = pasted-one last end (48 + n % 10) fits-behind }))

@@ -1,5 +1,5 @@
 -- The lines that the find program prints (document 01, "Worked sheets"), as bytes, and where they go in a buffer.
-use Prim.Native.Nat.{ℕ, zero, suc, _+_, _/_, _%_}
+use Prim.Native.Nat.{ℕ, zero, suc, _+_, _/_, _%_, _≤_}
 use mathlib.Core.Path.{_≡_}
 use mathlib.Core.Bool.{true, false}
 use mathlib.Core.List.{List, [], _∷_, _++_}
@@ -50,4 +50,5 @@ pasted d i s = take i d ++ (s ++ drop (i + length s) d)
 -- the list s was written into the buffer d from place i on: d′ is the buffer then, r the place behind s
 pub record Wrote (d : List ℕ) (i : ℕ) (s : List ℕ) (d′ : List ℕ) (r : ℕ) : Type 0 where
   pub end : r ≡ i + length s
+  pub within : r ≤ length d
   pub held : d′ ≡ pasted d i s

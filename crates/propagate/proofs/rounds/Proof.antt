@@ -10,11 +10,11 @@ use Rattle.propagate.proofs.rounds.Statement.{statement}
 use Rattle.propagate.proofs.rounds.Tie as tie
 
 abbrev Inv-loop : tie.InvT-loop
-Inv-loop labels₀ words₀ marks₀ symbol arg0 arg1 sort earlier n news₀ done₀ labels words marks news done =
+Inv-loop labels₀ words₀ marks₀ symbol arg0 arg1 sort n news₀ done₀ labels words marks news done =
     (n ≤ 128) × (done ≤ 512) × Kept (Lawful n symbol arg0 arg1) (Knows labels₀ words₀ marks₀) (Knows labels words marks)
 
 abbrev μ-loop : tie.MeasureT-loop
-μ-loop labels₀ words₀ marks₀ symbol arg0 arg1 sort earlier n news₀ done₀ labels words marks news done = 512 - done
+μ-loop labels₀ words₀ marks₀ symbol arg0 arg1 sort n news₀ done₀ labels words marks news done = 512 - done
 
 loop-holds : tie.Need-loop-holds Inv-loop μ-loop
 loop-holds c = (omega arith, omega arith, stay)

@@ -2,7 +2,6 @@
 use mathlib.Core.Path.{ap, _∙_, sym}
 use Rattle.knowledge.proofs.Laws.{step}
 use borrow.Author.Needs.{needs}
-use native.Mathlib.Omega.{arith}
 use Rattle.rules.proofs.congruent.Statement.{statement}
 use Rattle.rules.proofs.congruent.Tie as tie
 
@@ -42,7 +41,7 @@ join-requires c κs = search needs
 returns-5 : tie.Need-returns-5
 returns-5 c =
     let p = c .before .before .before .before .before .before .before .before .before .before .before .before .before .before .before .before .before .before .args in
-    step (λ a g k. g (p .i) (p .j) (omega arith) (omega arith) (c .before .before .before .before .before .before .before .before .before .before .before .before .before .before .if2 .left)
+    step (λ a g k. g (p .i) (p .j) (c .before .before .before .before .before .before .before .before .before .before .before .before .before .before .before .before .before .before .pre .1) (c .before .before .before .before .before .before .before .before .before .before .before .before .before .before .before .before .before .if1 .left) (c .before .before .before .before .before .before .before .before .before .before .before .before .before .before .if2 .left)
     (sym (c .before .before .before .before .before .before .before .before .before .before .before .before .argument .ensures .means a (k .labels)) ∙ ap a (c .before .before .before .before .before .before .before .before .before .if3 .left) ∙ c .before .before .before .before .before .before .before .before .before .before .argument2 .ensures .means a (k .labels))
     (sym (c .before .before .before .before .before .before .before .argument3 .ensures .means a (k .labels)) ∙ ap a (c .before .before .before .before .if4 .left) ∙ c .before .before .before .before .before .argument4 .ensures .means a (k .labels))) (c .join .ensures)
 

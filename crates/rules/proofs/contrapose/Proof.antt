@@ -3,7 +3,6 @@ use mathlib.Core.Path.{ap, _∙_, sym}
 use borrow.Author.Tests.{not-false}
 use Rattle.knowledge.proofs.Laws.{step}
 use borrow.Author.Needs.{needs}
-use native.Mathlib.Omega.{arith}
 use Rattle.rules.proofs.contrapose.Statement.{statement}
 use Rattle.rules.proofs.contrapose.Tie as tie
 
@@ -51,7 +50,7 @@ returns-4 c =
     let p = c .before .before .before .before .before .before .before .before .before .before .before .before .before .before .before .before .args in
     step (λ a s m e. c .before .before .before .before .before .before .before .before .apart .ensures (not-false _ (c .before .before .before .before .before .before .before .if3 .left)) .means a (s .lawful .small, (s .words, m))
     (c .before .before .before .before .before .before .before .before .before .before .label .ensures .means a (s .labels)
-    ∙ s .lawful .congruent (p .i) (p .j) (omega arith) (omega arith) (c .before .before .before .before .before .before .before .before .before .before .before .before .if2 .left)
+    ∙ s .lawful .congruent (p .i) (p .j) (c .before .before .before .before .before .before .before .before .before .before .before .before .before .before .before .before .pre .1) (c .before .before .before .before .before .before .before .before .before .before .before .before .before .before .before .if1 .left) (c .before .before .before .before .before .before .before .before .before .before .before .before .if2 .left)
     (sym (c .before .before .before .before .before .before .argument .ensures .means a (s .labels)) ∙ e ∙ c .before .before .before .before .before .argument2 .ensures .means a (s .labels))
     (sym (c .before .before .before .before .argument3 .ensures .means a (s .labels)) ∙ ap a (c .before .before .if4 .taken) ∙ c .before .before .before .argument4 .ensures .means a (s .labels))
     ∙ sym (c .before .before .before .before .before .before .before .before .before .label2 .ensures .means a (s .labels)))) (c .mark .ensures)
@@ -64,7 +63,7 @@ returns-5 c =
     let p = c .before .before .before .before .before .before .before .before .before .before .before .before .before .before .before .before .before .args in
     step (λ a s m e. c .before .before .before .before .before .before .before .before .before .apart .ensures (not-false _ (c .before .before .before .before .before .before .before .before .if3 .left)) .means a (s .lawful .small, (s .words, m))
     (c .before .before .before .before .before .before .before .before .before .before .before .label .ensures .means a (s .labels)
-    ∙ s .lawful .congruent (p .i) (p .j) (omega arith) (omega arith) (c .before .before .before .before .before .before .before .before .before .before .before .before .before .if2 .left)
+    ∙ s .lawful .congruent (p .i) (p .j) (c .before .before .before .before .before .before .before .before .before .before .before .before .before .before .before .before .before .pre .1) (c .before .before .before .before .before .before .before .before .before .before .before .before .before .before .before .before .if1 .left) (c .before .before .before .before .before .before .before .before .before .before .before .before .before .if2 .left)
     (sym (c .before .before .before .before .before .before .before .argument .ensures .means a (s .labels)) ∙ ap a (c .before .before .if5 .taken) ∙ c .before .before .before .before .before .before .argument2 .ensures .means a (s .labels))
     (sym (c .before .before .before .before .before .argument3 .ensures .means a (s .labels)) ∙ e ∙ c .before .before .before .before .argument4 .ensures .means a (s .labels))
     ∙ sym (c .before .before .before .before .before .before .before .before .before .before .label2 .ensures .means a (s .labels)))) (c .mark2 .ensures)

@@ -9,11 +9,11 @@ use Rattle.rules.proofs.join_congruent.Statement.{statement}
 use Rattle.rules.proofs.join_congruent.Tie as tie
 
 abbrev Inv-loop : tie.InvT-loop
-Inv-loop labels₀ words₀ marks₀ symbol arg0 arg1 n table₀ keys₀ news₀ i₀ labels words marks table keys news i =
+Inv-loop labels₀ words₀ marks₀ fresh₀ symbol arg0 arg1 n table₀ keys₀ news₀ i₀ labels words marks fresh table keys news i =
     (n ≤ 128) × (i ≤ n) × Kept (Congruent n symbol arg0 arg1) (Knows labels₀ words₀ marks₀) (Knows labels words marks)
 
 abbrev μ-loop : tie.MeasureT-loop
-μ-loop labels₀ words₀ marks₀ symbol arg0 arg1 n table₀ keys₀ news₀ i₀ labels words marks table keys news i = n - i
+μ-loop labels₀ words₀ marks₀ fresh₀ symbol arg0 arg1 n table₀ keys₀ news₀ i₀ labels words marks fresh table keys news i = n - i
 
 loop-holds : tie.Need-loop-holds Inv-loop μ-loop
 loop-holds c = (omega arith, omega arith, stay)
@@ -28,7 +28,7 @@ loop-less : tie.Need-loop-less Inv-loop μ-loop
 loop-less c = omega arith
 
 loop-again : tie.Need-loop-again Inv-loop μ-loop
-loop-again c = (omega arith, omega arith, chain (c .before .before .before .before .before .before .before .loop .inv .2) (c .meet-key .ensures))
+loop-again c = (omega arith, omega arith, chain (c .before .before .before .before .before .before .before .before .loop .inv .2) (c .meet-key .ensures))
 
 returns : tie.Need-returns Inv-loop μ-loop
 returns c = c .before .loop .inv .2

@@ -1,46 +1,30 @@
 -- `rules::mark_arguments` meets its contract.
-use Prim.Native.Nat.{_≤_}
-use Rattle.knowledge.specs.Knows.{Kept, Marks}
-use Rattle.knowledge.proofs.Laws.{stay, chain}
-use Rattle.rules.specs.Reasons.{Settled}
+use Rattle.knowledge.proofs.Laws.{chain}
 use borrow.Author.Needs.{needs}
-use native.Mathlib.Omega.{arith}
 use Rattle.rules.proofs.mark_arguments.Statement.{statement}
 use Rattle.rules.proofs.mark_arguments.Tie as tie
 
-abbrev Inv-loop : tie.InvT-loop
-Inv-loop marks₀ labels words symbol arg0 arg1 earlier n news₀ i₀ marks news i = (n ≤ 128) × (i ≤ n) × Kept (Settled n symbol arg0 arg1 labels words) (Marks marks₀) (Marks marks)
+buckets-requires : tie.Need-buckets-requires
+buckets-requires c κs = search needs
 
-abbrev μ-loop : tie.MeasureT-loop
-μ-loop marks₀ labels words symbol arg0 arg1 earlier n news₀ i₀ marks news i = i
+contrapose-all-requires : tie.Need-contrapose-all-requires
+contrapose-all-requires c κs = search needs
 
-loop-holds : tie.Need-loop-holds Inv-loop μ-loop
-loop-holds c = (omega arith, omega arith, stay)
+buckets-requires-2 : tie.Need-buckets-requires-2
+buckets-requires-2 c κs = search needs
 
-sub-i : tie.Need-sub-i Inv-loop μ-loop
-sub-i c = omega arith
+contrapose-all-requires-2 : tie.Need-contrapose-all-requires-2
+contrapose-all-requires-2 c κs = search needs
 
-contrapose-row-requires : tie.Need-contrapose-row-requires Inv-loop μ-loop
-contrapose-row-requires c κs = search needs
-
-loop-less : tie.Need-loop-less Inv-loop μ-loop
-loop-less c = omega arith
-
-loop-again : tie.Need-loop-again Inv-loop μ-loop
-loop-again c = (omega arith, omega arith, chain (c .before .before .before .loop .inv .2) (c .contrapose-row .ensures))
-
-returns : tie.Need-returns Inv-loop μ-loop
-returns c = c .before .loop .inv .2
+returns : tie.Need-returns
+returns c = chain (c .before .before .before .before .contrapose-all .ensures) (c .contrapose-all2 .ensures)
 
 pub mark-arguments-spec : {M : Type 1} → statement M
 mark-arguments-spec =
     tie.close
     (tie.spec
-    Inv-loop
-    μ-loop
-    loop-holds
-    sub-i
-    contrapose-row-requires
-    loop-less
-    loop-again
+    buckets-requires
+    contrapose-all-requires
+    buckets-requires-2
+    contrapose-all-requires-2
     returns)

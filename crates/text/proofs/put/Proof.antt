@@ -1,5 +1,6 @@
 -- `text::put` meets its contract.
 use borrow.Author.Needs.{needs}
+use native.Mathlib.Omega.{arith}
 use Prim.Native.Nat.{_-_}
 use mathlib.Core.Path.{ap, _∙_}
 use lib.ListN.{length}
@@ -31,6 +32,7 @@ returns c =
     let m = c .before .before .before .before .before .before in
     record {
       end = cc (c .before .before .copy .ensures .0);
+      within = omega (arith, c .before .before .copy .ensures .0, m .pre);
       held =
           ap (putMid (m .args .at) (length (m .args .out .now) - m .args .at) (m .args .out .now)) (c .before .before .copy .ensures .1)
           ∙ pasted-tail (m .args .out .now) (m .args .at) (m .args .word .now) (m .pre);

@@ -16,7 +16,7 @@ abbrev μ-loop : tie.MeasureT-loop
 loop-holds : tie.Need-loop-holds Inv-loop μ-loop
 loop-holds c =
     let m = c .before .before in
-    none-written (m .args .out .now) (m .args .from) (m .args .cells .now)
+    none-written (m .args .out .now) (m .args .from) (m .args .cells .now) (omega (arith, m .pre))
 
 shared-slice-read-put-spaced : tie.Need-shared-slice-read-put-spaced Inv-loop μ-loop
 shared-slice-read-put-spaced c = search needs
