@@ -16,9 +16,9 @@ use crate::dice::wide;
 use crate::plan::Plan;
 use crate::plan::ceiling_of;
 use crate::plan::floor_of;
-use crate::sizes::next_sizes;
-use crate::sizes::vectors;
-use crate::sizes::with_size;
+use crate::ranges::next_sizes;
+use crate::ranges::vectors;
+use crate::ranges::with_size;
 
 // A key has the sum of the sizes, the sizes and the codes: the order of document 01 is the order of keys, byte by byte. A sheet without
 // an answer has a sum that is above every sum.

@@ -11,9 +11,9 @@ use crate::cells::turn;
 use crate::dice::plus;
 use crate::plan::Plan;
 use crate::plan::sort_of;
-use crate::sizes::next_sizes;
-use crate::sizes::vectors;
-use crate::sizes::with_size;
+use crate::ranges::next_sizes;
+use crate::ranges::vectors;
+use crate::ranges::with_size;
 
 // The number of terms of each sort, at least 1.
 pub fn spans(p: Plan) -> [u8; 4] {

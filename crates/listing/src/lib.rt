@@ -7,4 +7,4 @@ pub mod dice; // random numbers from a seed
 pub mod draw; // a sheet at random
 pub mod encode; // its bytes
 pub mod plan; // a sheet as it is drawn
-pub mod sizes; // lists of sizes
+pub mod ranges; // lists of sizes

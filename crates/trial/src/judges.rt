@@ -20,8 +20,8 @@ use listing::cells::turn;
 use listing::dice::plus;
 use listing::dice::wide;
 use listing::plan::Plan;
-use listing::sizes::next_sizes;
-use listing::sizes::vectors;
+use listing::ranges::next_sizes;
+use listing::ranges::vectors;
 use tables::Judgement;
 
 // Every list of sizes within bounds, and some out of bounds.

@@ -1,8 +1,8 @@
--- `listing::sizes::vectors` is safe and ends.
+-- `listing::ranges::vectors` is safe and ends.
 use Prim.Native.Nat.{_≤_, _-_}
 use borrow.Author.Needs.{needs}
-use Rattle.listing.proofs.sizes.vectors.Statement.{statement}
-use Rattle.listing.proofs.sizes.vectors.Tie as tie
+use Rattle.listing.proofs.ranges.vectors.Statement.{statement}
+use Rattle.listing.proofs.ranges.vectors.Tie as tie
 
 abbrev Inv-loop : tie.InvT-loop
 Inv-loop top n v₀ k₀ v k = k ≤ n

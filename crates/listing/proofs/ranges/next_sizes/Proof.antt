@@ -1,8 +1,8 @@
--- `listing::sizes::next_sizes` is safe and ends.
+-- `listing::ranges::next_sizes` is safe and ends.
 use Prim.Native.Nat.{_≤_}
 use borrow.Author.Needs.{needs}
-use Rattle.listing.proofs.sizes.next_sizes.Statement.{statement}
-use Rattle.listing.proofs.sizes.next_sizes.Tie as tie
+use Rattle.listing.proofs.ranges.next_sizes.Statement.{statement}
+use Rattle.listing.proofs.ranges.next_sizes.Tie as tie
 
 abbrev Inv-loop : tie.InvT-loop
 Inv-loop top s₀ k₀ s k = k ≤ k₀
