@@ -15,3 +15,4 @@ pub mod Filling
 pub mod Grid
 pub mod Writing
 pub mod Answering
+pub mod Searching

@@ -8,13 +8,15 @@ use lib.ListN.{length}
 use lib.Dec.{eqb}
 use Rattle.logic.specs.Sheet.{Sheet}
 use Rattle.logic.specs.Problem.{Problem}
-use Rattle.sheet.specs.Layout.{if}
+use Rattle.sheet.specs.Layout.{if, accepted, reading}
+use Rattle.sheet.specs.Packed.{packed}
 use Rattle.sheet.specs.declared.Parsed.{Parsed}
 use Rattle.tables.specs.Layout.{extent, encoded}
 use Rattle.tables.specs.Grid.{gridCell}
 use Rattle.tables.specs.Parts.{Packs}
 use Rattle.finder.specs.Answer.{Entry, entryOf, sum, structureOf}
-use Rattle.finder.specs.Find.{fronted}
+use Rattle.finder.specs.Find.{fronted, finding, codesAfter, tablesAfter}
+use Rattle.finder.specs.declared.Finding.{Finding}
 
 -- term i reaches the cell of symbol f in this row and column
 abbrev pub reaches : Problem → (ℕ → ℕ) → ℕ → ℕ → ℕ → ℕ → Bool
@@ -48,3 +50,16 @@ pub record AnswerWritten (sh : Sheet) (size c : ℕ → ℕ) (codes tables codes
   pub total : r ≡ sum (entryOf sh size c .sizes)
   pub front : codes′ ≡ fronted (entryOf sh size c .codes) codes
   pub bytes : tables′ ≡ fronted (answerBytes sh size c) tables
+
+-- a parsed sheet with the bytes that it was read from
+pub record ReadFrom (p : Parsed) : Type 0 where
+  pub bytes : List ℕ
+  pub sheet : Sheet
+  pub reads : reading bytes ≡ accepted sheet
+  pub same : p ≡ packed sheet
+
+-- WHAT FIND PROMISES of a call on the bytes s: the result, and every byte of both buffers. A primed buffer is the buffer at exit.
+pub record Finds (s cs ts cs′ ts′ : List ℕ) (r : Finding) : Type 0 where
+  pub result : r ≡ finding s (length cs) (length ts)
+  pub codes : cs′ ≡ codesAfter s cs ts
+  pub tables : ts′ ≡ tablesAfter s cs ts

@@ -40,6 +40,7 @@ module _ (P : Problem) (sizes : ℕ → ℕ) (l : List ℕ) (term size word fres
     where
       ext : Extends P (at (set l term v)) (at codes)
       ext = subst (λ (k : List ℕ). Extends P (at k) (at codes)) e (s .extends f)
+
       code : at codes term ≡ v
       code = let same = at-set-same l term v h in ext term (b .there) (λ u. small (sym same ∙ u)) ∙ same
 
@@ -114,9 +115,9 @@ module _ (P : Problem) (sizes : ℕ → ℕ) (model decided : List ℕ) (n : ℕ
           pending = λ j h l. other j (after-not j h) ∙ k .pending j (omega arith) l;
           first = λ c con. below-more (λ (j : ℕ). ((i : ℕ) → i < j → at better i ≡ c i) → at better j ≤ c j) n
               (λ j h agree.
-                let e : at better j ≡ at model j = sym (below j h) ∙ k .same j h in
-                let l = k .first c con j h (λ i hi. sym (k .same i (omega arith)) ∙ below i (omega arith) ∙ agree i hi) in
-                omega arith)
+              let e : at better j ≡ at model j = sym (below j h) ∙ k .same j h in
+              let l = k .first c con j h (λ i hi. sym (k .same i (omega arith)) ∙ below i (omega arith) ∙ agree i hi) in
+              omega arith)
               (λ agree. low .least c con (agrees-extends c (λ j h. below j h ∙ agree j h)));
         }
 

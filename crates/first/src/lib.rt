@@ -17,7 +17,14 @@ pub struct Codes {
 }
 
 // The model with the least code at a term, of those that keep to the decided codes: each smaller code is tried, in ascending order.
-fn lower(p: Parsed, sizes: [u8; 8], decided: [u8; 256], term: usize, model: [u8; 256], weights: [u32; 128]) -> Solution
+fn lower(
+    p: Parsed,
+    sizes: [u8; 8],
+    decided: [u8; 256],
+    term: usize,
+    model: [u8; 256],
+    weights: [u32; 128],
+) -> Solution
     requires { ⌜ Searchable p ⌝ }
     requires { ⌜ Small p (at sizes) ⌝ }
     requires { ⌜ (term < p .terms) × (at decided term ≡ undecided) ⌝ }

@@ -208,10 +208,13 @@ module _ (P : Problem) (slack : ℕ) (high : List ℕ) (n : ℕ) (few : P .sorts
     where
       same : at less n ≡ v
       same = ap (λ (m : List ℕ). at m n) e ∙ at-set-same high n v (omega (arith, k .length))
+
       other : (s : ℕ) → (s ≡ n → ⊥) → at less s ≡ at high s
       other s ne = ap (λ (m : List ℕ). at m s) e ∙ at-set-other high n v s ne
+
       before-not : (j : ℕ) → j < n → j ≡ n → ⊥
       before-not j h x = omega arith
+
       after-not : (j : ℕ) → n + 1 ≤ j → j ≡ n → ⊥
       after-not j h x = omega arith
 
@@ -510,9 +513,9 @@ module _ (P : Problem) (low high : ℕ → ℕ) (bound : ℕ) (corner : ℕ → 
                         elim (decLt b (size n)) [
                           | yes y ↦ inl (h .all size (record { allowed = o .allowed; satisfiable = o .satisfiable; above = above size o y; under = x; sum = o .sum }))
                           | no y ↦ inr (λ s l. elim (ℕ-discrete s n) [
-                              | yes z ↦ subst (λ (t : ℕ). size t ≤ at less t) (sym z) (let q = less-same in omega arith)
-                              | no z ↦ let q = less-other s z in let r = x s l in omega arith
-                            ])
+                            | yes z ↦ subst (λ (t : ℕ). size t ≤ at less t) (sym z) (let q = less-same in omega arith)
+                            | no z ↦ let q = less-other s z in let r = x s l in omega arith
+                          ])
                         ]
                   ];
             }

@@ -115,7 +115,15 @@ fn within(a: usize, b: usize, guess: usize) -> usize
 
 // The least size of a sort from lo to hi at which the base, with that size, may have consistent codes; a first guess is tried first,
 // then the middle of what is left.
-fn edge(p: Parsed, base: [u8; 8], sort: usize, lo: usize, hi: usize, first: usize, weights: [u32; 128]) -> Edged
+fn edge(
+    p: Parsed,
+    base: [u8; 8],
+    sort: usize,
+    lo: usize,
+    hi: usize,
+    first: usize,
+    weights: [u32; 128],
+) -> Edged
     requires { ⌜ Searchable p ⌝ }
     requires { ⌜ Small p (at base) ⌝ }
     requires { ⌜ (sort < p .sorts) × (lo ≤ hi) × (hi ≤ 17) ⌝ }

@@ -78,6 +78,7 @@ module _ (P : Problem) (q : ℕ → ℕ) (words codes : List ℕ) (n v : ℕ) (h
     where
       below-not : (i : ℕ) → i < n → i ≡ n → ⊥
       below-not i l e = omega arith
+
       above-not : (i : ℕ) → n + 1 ≤ i → i ≡ n → ⊥
       above-not i l e = omega arith
 
@@ -126,6 +127,7 @@ module _ (P : Problem) (sizes q : ℕ → ℕ) (w : WellSorted P) (small : (s : 
               worth = record { below = con .range term there; kept = k c con ext term there; used = o };
               most = omega arith;
             }
+
         exchanged : fresh < c term → (at flags (c term) ≡ 1 → ⊥) → Covers P sizes q term (sizes (P .sort term)) (at words term) fresh flags c (swapped P (P .sort term) fresh (c term) c)
         exchanged gt n =
             let d = swapped P (P .sort term) fresh (c term) c in

@@ -216,7 +216,12 @@ fn choose(p: Parsed, decided: [u8; 256], o: Outcome, weights: [u32; 128]) -> usi
     let mut i: usize = 0;
     while i < p.terms {
         if decided[i] == 255 && wide(o.labels[i]) == i {
-            let n = score(o.struck[i], word_of(used, p.sort[i]), o.degree[i], weights[i]);
+            let n = score(
+                o.struck[i],
+                word_of(used, p.sort[i]),
+                o.degree[i],
+                weights[i],
+            );
             if high < n {
                 best = i;
                 high = n;
@@ -242,7 +247,14 @@ fn heavier(weights: [u32; 128], group: u8) -> [u32; 128] {
 // ---- One node, and the search.
 
 // The node that branches on a term.
-fn branch(p: Parsed, sizes: [u8; 8], decided: [u8; 256], words: [u16; 128], term: usize, weights: [u32; 128]) -> Step
+fn branch(
+    p: Parsed,
+    sizes: [u8; 8],
+    decided: [u8; 256],
+    words: [u16; 128],
+    term: usize,
+    weights: [u32; 128],
+) -> Step
     requires { ⌜ Searchable p ⌝ }
     requires { ⌜ Small p (at sizes) ⌝ }
     requires { ⌜ Knows (view p) (at sizes) (at decided) words ⌝ }

@@ -74,9 +74,10 @@ loop-again c =
     let t = c .before .before .before .before .before in
     let l = t .before .before in
     let s = l .before .before .before .before .before .before in
-    let h = t .if2 .taken in
-    (omega arith,
-    lowered-more _ _ _ _ _ (s .pre .0 .terms) h (l .loop .inv .1) (s .pre .0 .sorted) (s .pre .1) _ _ _ (c .before .before .before .before .lower .ensures) (c .before .wide .ensures .0) (c .decide .ensures))
+    let h = t .if2 .taken in (
+      omega arith,
+      lowered-more _ _ _ _ _ (s .pre .0 .terms) h (l .loop .inv .1) (s .pre .0 .sorted) (s .pre .1) _ _ _ (c .before .before .before .before .lower .ensures) (c .before .wide .ensures .0) (c .decide .ensures),
+    )
 
 returns-2 : tie.Need-returns-2 Inv-loop μ-loop
 returns-2 c = lowered-all _ _ _ (c .before .before .loop .decided) _ (c .if2 .left) (c .before .before .loop .inv .1)

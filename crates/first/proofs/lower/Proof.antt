@@ -87,12 +87,13 @@ loop-again c =
     let l = c .before .before .before in
     let h = c .before .before .loop-test .taken in
     let k = l .loop .inv .1 in
-    let s = l .before .before .before .before .before .before in
-    (omega arith,
-    elim (c .if3 .came) [
-      | inl w ↦ tried-dead _ _ (s .args .decided) (s .args .term) _ _ _ _ _ k _ (w .1 .ensures) (w .2 .ensures .none (w .3 .left))
-      | inr w ↦ tried-not _ _ (s .args .decided) (s .args .term) _ _ _ _ _ k (c .before .worth .ensures .no (w .0 .left))
-    ])
+    let s = l .before .before .before .before .before .before in (
+      omega arith,
+      elim (c .if3 .came) [
+        | inl w ↦ tried-dead _ _ (s .args .decided) (s .args .term) _ _ _ _ _ k _ (w .1 .ensures) (w .2 .ensures .none (w .3 .left))
+        | inr w ↦ tried-not _ _ (s .args .decided) (s .args .term) _ _ _ _ _ k (c .before .worth .ensures .no (w .0 .left))
+      ],
+    )
 
 returns-4 : tie.Need-returns-4 Inv-loop μ-loop
 returns-4 c =

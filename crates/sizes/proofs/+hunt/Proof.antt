@@ -74,9 +74,10 @@ hunt-loop-holds : (t : ℕ) → hunt-lts.Need-loop-holds (
 ) (hunt-at t) hunt.Post hunt-Inv-loop hunt-μ-loop
 hunt-loop-holds t c =
     let k = c .before .before .before in
-    let s = k .before in
-    (omega arith,
-    hunting-none _ _ _ _ _ _ _ _ _ (s .args .high) (s .good .1 .1 .0 .1 .0 .1) (λ j. refl) (s .pre .1 .1 .0) (k .look .ensures .candidate) (covered-itself _ _ _))
+    let s = k .before in (
+      omega arith,
+      hunting-none _ _ _ _ _ _ _ _ _ (s .args .high) (s .good .1 .1 .0 .1 .0 .1) (λ j. refl) (s .pre .1 .1 .0) (k .look .ensures .candidate) (covered-itself _ _ _),
+    )
 
 hunt-array-read-wide : (t : ℕ) → hunt-lts.Need-array-read-wide (
   look-reads.Asked,
@@ -174,11 +175,16 @@ hunt-hunt-requires t c κs =
     let s = k .before in
     let i = l .loop .inv .1 in
     let inside = k .look .ensures .inside (g .if1 .left) in
-    let few = down-fewer _ _ _ _ _ _ _ _ _ (l .loop .up) (l .loop .s) _ _ (s .pre .1 .0 .sorts) (t .if2 .taken) i (m .before .wide .ensures .0) (m .wide2 .ensures .0) inside (c .before .if3 .taken) (c .with-size .result) (s .args .low) (λ j. refl) (s .good .1 .0 .1 .0 .1) (c .with-size .ensures) in
-    (subst (λ (n : ℕ). sumTo (s .args .p .sorts) (at (l .loop .up)) - sumTo (s .args .p .sorts) (at (c .with-size .result)) < n) (s .pre .0) few,
-    (s .pre .1 .0,
-    (down-region _ _ _ _ _ _ _ _ _ (l .loop .up) (l .loop .s) _ _ (s .pre .1 .0 .sorts) (t .if2 .taken) i (m .before .wide .ensures .0) (m .wide2 .ensures .0) inside (c .before .if3 .taken) (c .with-size .result) (s .args .low) (λ j. refl) (s .good .1 .0 .1 .0 .1) (c .with-size .ensures),
-    (s .pre .1 .1 .1 .0, i .candidate))))
+    let few = down-fewer _ _ _ _ _ _ _ _ _ (l .loop .up) (l .loop .s) _ _ (s .pre .1 .0 .sorts) (t .if2 .taken) i (m .before .wide .ensures .0) (m .wide2 .ensures .0) inside (c .before .if3 .taken) (c .with-size .result) (s .args .low) (λ j. refl) (s .good .1 .0 .1 .0 .1) (c .with-size .ensures) in (
+      subst (λ (n : ℕ). sumTo (s .args .p .sorts) (at (l .loop .up)) - sumTo (s .args .p .sorts) (at (c .with-size .result)) < n) (s .pre .0) few,
+      (
+        s .pre .1 .0,
+        (
+          down-region _ _ _ _ _ _ _ _ _ (l .loop .up) (l .loop .s) _ _ (s .pre .1 .0 .sorts) (t .if2 .taken) i (m .before .wide .ensures .0) (m .wide2 .ensures .0) inside (c .before .if3 .taken) (c .with-size .result) (s .args .low) (λ j. refl) (s .good .1 .0 .1 .0 .1) (c .with-size .ensures),
+          (s .pre .1 .1 .1 .0, i .candidate),
+        ),
+      ),
+    )
 
 hunt-with-size-requires-2 : (t : ℕ) → hunt-lts.Need-with-size-requires-2 (
   look-reads.Asked,
@@ -243,18 +249,19 @@ hunt-loop-again t c =
     let i = l .loop .inv .1 in
     let h = t .if2 .taken in
     let inside = k .look .ensures .inside (g .if1 .left) in
-    let keep : State → List ℕ → Type 0 = λ state up. Hunting (view (s .args .p)) (at (s .args .low)) (at (s .args .high)) (s .args .bound) (at (k .look .result .corner)) (k .look .result .state .found) (at (k .look .result .state .best)) (state .found) (at (state .best)) up (l .loop .s + 1) in
-    (omega arith,
-    elim (c .if3 .came) [
-      | inl w ↦
-          subst (λ (st : State). keep st (c .if3 .up)) (sym (w .4))
-          (subst (λ (up : List ℕ). keep (w .2 .result) up) (sym (w .5))
-          (hunting-more _ _ _ _ _ _ _ _ _ (l .loop .up) (l .loop .s) _ _ (s .pre .1 .0 .sorts) h i (m .before .wide .ensures .0) (m .wide2 .ensures .0) inside (w .0 .taken) (w .1 .result) (s .args .low) (λ j. refl) (s .good .1 .0 .1 .0 .1) (w .1 .ensures) _ _ _ (w .2 .ensures) (w .3 .ensures)))
-      | inr w ↦
-          subst (λ (st : State). keep st (c .if3 .up)) (sym (w .1))
-          (subst (λ (up : List ℕ). keep (l .loop .state) up) (sym (w .2))
-          (hunting-skip _ _ _ _ _ _ _ _ _ (l .loop .up) (l .loop .s) _ _ (s .pre .1 .0 .sorts) h i (m .before .wide .ensures .0) (m .wide2 .ensures .0) (w .0 .left)))
-    ])
+    let keep : State → List ℕ → Type 0 = λ state up. Hunting (view (s .args .p)) (at (s .args .low)) (at (s .args .high)) (s .args .bound) (at (k .look .result .corner)) (k .look .result .state .found) (at (k .look .result .state .best)) (state .found) (at (state .best)) up (l .loop .s + 1) in (
+      omega arith,
+      elim (c .if3 .came) [
+        | inl w ↦
+            subst (λ (st : State). keep st (c .if3 .up)) (sym (w .4))
+            (subst (λ (up : List ℕ). keep (w .2 .result) up) (sym (w .5))
+            (hunting-more _ _ _ _ _ _ _ _ _ (l .loop .up) (l .loop .s) _ _ (s .pre .1 .0 .sorts) h i (m .before .wide .ensures .0) (m .wide2 .ensures .0) inside (w .0 .taken) (w .1 .result) (s .args .low) (λ j. refl) (s .good .1 .0 .1 .0 .1) (w .1 .ensures) _ _ _ (w .2 .ensures) (w .3 .ensures)))
+        | inr w ↦
+            subst (λ (st : State). keep st (c .if3 .up)) (sym (w .1))
+            (subst (λ (up : List ℕ). keep (l .loop .state) up) (sym (w .2))
+            (hunting-skip _ _ _ _ _ _ _ _ _ (l .loop .up) (l .loop .s) _ _ (s .pre .1 .0 .sorts) h i (m .before .wide .ensures .0) (m .wide2 .ensures .0) (w .0 .left)))
+      ],
+    )
 
 hunt-returns-2 : (t : ℕ) → hunt-lts.Need-returns-2 (
   look-reads.Asked,

@@ -42,10 +42,13 @@ hunt-requires c κs =
     let r = c .before .before in
     let e = r .before .before .before .before .before in
     let l = e .before .before .before in
-    let k = r .raise .ensures in
-    (l .before .pre,
-    (record { floors = k .floors; order = k .highs; ceilings = l .limits .ensures .ceilings (not-false _ (e .if1 .left)) },
-    (le-refl _, λ x. absurd (false≢true x))))
+    let k = r .raise .ensures in (
+      l .before .pre,
+      (
+        record { floors = k .floors; order = k .highs; ceilings = l .limits .ensures .ceilings (not-false _ (e .if1 .left)) },
+        (le-refl _, λ x. absurd (false≢true x)),
+      ),
+    )
 
 returns-3 : tie.Need-returns-3
 returns-3 c =

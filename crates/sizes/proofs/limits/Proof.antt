@@ -95,12 +95,16 @@ loop-again c =
     let o = c .before .if2 .left in
     let s = l .before .before .before .before .before .before in
     let k = l .loop .inv .1 .1 in
-    let keep : List ℕ → Type 0 = λ high. Clipped (view (s .args .t1)) (s .args .t1 .total - l .before .before .sum .result) high (l .loop .s + 1) in
-    (omega arith, (l .loop .inv .1 .0,
-    elim (c .if3 .came) [
-      | inl w ↦ let x = w .0 .taken in subst keep (sym (w .2)) (clipped-less _ _ _ _ (s .pre .sorts) h k (omega arith) _ _ (omega arith) (omega arith) (w .1 .ensures))
-      | inr w ↦ let x = w .0 .left in subst keep (sym (w .1)) (clipped-kept _ _ _ _ (s .pre .sorts) h k (omega arith) (omega arith))
-    ]))
+    let keep : List ℕ → Type 0 = λ high. Clipped (view (s .args .t1)) (s .args .t1 .total - l .before .before .sum .result) high (l .loop .s + 1) in (
+      omega arith,
+      (
+        l .loop .inv .1 .0,
+        elim (c .if3 .came) [
+          | inl w ↦ let x = w .0 .taken in subst keep (sym (w .2)) (clipped-less _ _ _ _ (s .pre .sorts) h k (omega arith) _ _ (omega arith) (omega arith) (w .1 .ensures))
+          | inr w ↦ let x = w .0 .left in subst keep (sym (w .1)) (clipped-kept _ _ _ _ (s .pre .sorts) h k (omega arith) (omega arith))
+        ],
+      ),
+    )
 
 returns-3 : tie.Need-returns-3 Inv-loop μ-loop
 returns-3 c = clipped-all _ _ _ _ (c .loop-test .left) (c .before .loop .inv .1 .0) (c .before .loop .inv .1 .1)

@@ -45,10 +45,10 @@ returns-3 c =
     let e = m .sum .ensures in
     look-found _ _ _ _ _ _ _ (s .pre .1 .1 .1) (s .pre .1 .0) (s .pre .1 .1 .0) (omega arith) (c .before .before .probe .ensures .yes (c .if4 .taken))
     (λ f.
-      elim (j .if2 .came) [
-        | inl w ↦ w .1 .ensures .no (w .2 .left)
-        | inr w ↦ absurd (false≢true (sym (w .left) ∙ f))
-      ])
+    elim (j .if2 .came) [
+      | inl w ↦ w .1 .ensures .no (w .2 .left)
+      | inr w ↦ absurd (false≢true (sym (w .left) ∙ f))
+    ])
 
 widen-requires : tie.Need-widen-requires
 widen-requires c κs =

@@ -66,11 +66,12 @@ loop-again c =
     let t = e .before .before .before in
     let l = t .before .before in
     let s = l .before .before .before in
-    let h = t .if1 .taken in
-    (omega arith,
-    raising-more _ _ (s .args .t2) _ _ _ _ (s .pre .0 .sorted) (s .pre .0 .sorts) h (s .pre .1) (l .loop .inv .1) (e .before .before .wide .ensures .0)
-    (subst (λ (hi : ℕ). Edge (view (s .args .p)) (s .args .t2) (l .loop .s) (e .before .before .wide .result) hi (e .edge .result .value)) (e .before .wide2 .ensures .0) (e .edge .ensures))
-    (s .good .1 .0 .1 .0 .1) (c .with-size .ensures))
+    let h = t .if1 .taken in (
+      omega arith,
+      raising-more _ _ (s .args .t2) _ _ _ _ (s .pre .0 .sorted) (s .pre .0 .sorts) h (s .pre .1) (l .loop .inv .1) (e .before .before .wide .ensures .0)
+          (subst (λ (hi : ℕ). Edge (view (s .args .p)) (s .args .t2) (l .loop .s) (e .before .before .wide .result) hi (e .edge .result .value)) (e .before .wide2 .ensures .0) (e .edge .ensures))
+          (s .good .1 .0 .1 .0 .1) (c .with-size .ensures),
+    )
 
 returns : tie.Need-returns Inv-loop μ-loop
 returns c = c .before .before .loop .inv .1 .raised

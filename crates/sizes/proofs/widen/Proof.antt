@@ -80,18 +80,19 @@ loop-again c =
     let s = l .before in
     let h = t .if1 .taken in
     let k = l .loop .inv .1 in
-    let keep : List ℕ → Type 0 = λ corner. Widening (view (s .args .p)) (at (s .args .low)) corner (at (s .args .t3)) in
-    (omega arith,
-    elim (c .if2 .came) [
-      | inl w ↦
-          subst keep (sym (w .5))
-          (widening-more _ _ _ _ _ (l .loop .s) _ _ _ _ (s .pre .0 .sorts) h k (ap (λ (n : ℕ). n + 1) (m .before .wide .ensures .0)) (ap (λ (n : ℕ). n + 1) (m .wide2 .ensures .0)) (w .1 .ensures) (w .3 .taken) (less-more _ _ (w .3 .taken)) (w .4 .ensures))
-      | inr v ↦
-          elim v [
-            | inl w ↦ subst keep (sym (w .4)) k
-            | inr w ↦ subst keep (sym (w .1)) k
-          ]
-    ])
+    let keep : List ℕ → Type 0 = λ corner. Widening (view (s .args .p)) (at (s .args .low)) corner (at (s .args .t3)) in (
+      omega arith,
+      elim (c .if2 .came) [
+        | inl w ↦
+            subst keep (sym (w .5))
+            (widening-more _ _ _ _ _ (l .loop .s) _ _ _ _ (s .pre .0 .sorts) h k (ap (λ (n : ℕ). n + 1) (m .before .wide .ensures .0)) (ap (λ (n : ℕ). n + 1) (m .wide2 .ensures .0)) (w .1 .ensures) (w .3 .taken) (less-more _ _ (w .3 .taken)) (w .4 .ensures))
+        | inr v ↦
+            elim v [
+              | inl w ↦ subst keep (sym (w .4)) k
+              | inr w ↦ subst keep (sym (w .1)) k
+            ]
+      ],
+    )
 
 returns : tie.Need-returns Inv-loop μ-loop
 returns c = c .before .before .loop .inv .1 .boxed

@@ -144,11 +144,12 @@ solve-solve-requires t c κs =
     let n = g .before .before .before .before in
     let b = n .node .ensures .branches (g .before .if1 .left) (g .if2 .left) in
     let h = c .before .before .before .loop-test .taken in
-    let s = b .small in
-    (subst (λ (k : ℕ). openings (c .decide .result) < k) (n .before .pre .0)
-    (subst (λ (m : List ℕ). openings m < openings (n .before .args .decided)) (sym (c .decide .ensures))
-    (decide-fewer (n .before .args .decided) (n .node .result .term) (l .loop .v) (b .pending) (not-undecided _ h s))),
-    n .before .pre .1)
+    let s = b .small in (
+      subst (λ (k : ℕ). openings (c .decide .result) < k) (n .before .pre .0)
+          (subst (λ (m : List ℕ). openings m < openings (n .before .args .decided)) (sym (c .decide .ensures))
+          (decide-fewer (n .before .args .decided) (n .node .result .term) (l .loop .v) (b .pending) (not-undecided _ h s))),
+      n .before .pre .1,
+    )
 
 solve-returns-3 : (t : ℕ) → solve-lts.Need-returns-3 (
   node-reads.Asked,
@@ -210,12 +211,13 @@ solve-loop-again t c =
     let l = c .before .before .before in
     let h = c .before .before .loop-test .taken in
     let k = l .loop .inv .1 in
-    let n = l .before .before .before .before .before .before in
-    (omega arith,
-    elim (c .if3 .came) [
-      | inl w ↦ tried-dead _ _ (n .before .args .decided) (n .node .result .term) _ _ _ _ _ k _ (w .1 .ensures) (w .2 .ensures .none (w .3 .left))
-      | inr w ↦ tried-not _ _ (n .before .args .decided) (n .node .result .term) _ _ _ _ _ k (c .before .worth .ensures .no (w .0 .left))
-    ])
+    let n = l .before .before .before .before .before .before in (
+      omega arith,
+      elim (c .if3 .came) [
+        | inl w ↦ tried-dead _ _ (n .before .args .decided) (n .node .result .term) _ _ _ _ _ k _ (w .1 .ensures) (w .2 .ensures .none (w .3 .left))
+        | inr w ↦ tried-not _ _ (n .before .args .decided) (n .node .result .term) _ _ _ _ _ k (c .before .worth .ensures .no (w .0 .left))
+      ],
+    )
 
 solve-returns-4 : (t : ℕ) → solve-lts.Need-returns-4 (
   node-reads.Asked,

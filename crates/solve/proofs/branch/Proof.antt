@@ -40,11 +40,12 @@ array-read-t25 c = search needs
 
 returns : tie.Need-returns
 returns c =
-    let s = c .before .before .before .before .before in
-    (branch-planned _ _ _ _ _ _ (s .args .t4) _ (s .pre .0 .sorted) (s .pre .1 .0) (s .pre .1 .1 .0) (s .pre .1 .1 .1 .0) (s .pre .1 .1 .1 .1)
-    (c .before .before .wide2 .ensures .0 ∙ ap (at (s .args .t2)) (c .before .before .before .wide .ensures .0))
-    (c .fresh .ensures) (c .before .used .ensures),
-    (refl, refl, refl))
+    let s = c .before .before .before .before .before in (
+      branch-planned _ _ _ _ _ _ (s .args .t4) _ (s .pre .0 .sorted) (s .pre .1 .0) (s .pre .1 .1 .0) (s .pre .1 .1 .1 .0) (s .pre .1 .1 .1 .1)
+          (c .before .before .wide2 .ensures .0 ∙ ap (at (s .args .t2)) (c .before .before .before .wide .ensures .0))
+          (c .fresh .ensures) (c .before .used .ensures),
+      (refl, refl, refl),
+    )
 
 pub branch-spec : {M : Type 1} → statement M
 branch-spec =

@@ -35,12 +35,13 @@ loop-again : tie.Need-loop-again Inv-loop μ-loop
 loop-again c =
     let m = c .before .before .before in
     let i = m .loop .inv .1 in
-    let keep : ℕ → Type 0 = λ one. (one ≤ 16) × ((u : ℕ) → u < m .loop .v + 1 → (Struck (m .before .args .word) u → ⊥) → u ≡ one) in
-    (omega arith,
-    elim (c .if1 .came) [
-      | inl w ↦ subst keep (sym (w .2)) (omega arith, only-first _ _ _ (omega arith) (w .1 .left) (i .1))
-      | inr w ↦ subst keep (sym (w .1)) (i .0, only-struck _ _ _ (c .before .struck .ensures .yes (not-false _ (w .0 .left))) (i .1))
-    ])
+    let keep : ℕ → Type 0 = λ one. (one ≤ 16) × ((u : ℕ) → u < m .loop .v + 1 → (Struck (m .before .args .word) u → ⊥) → u ≡ one) in (
+      omega arith,
+      elim (c .if1 .came) [
+        | inl w ↦ subst keep (sym (w .2)) (omega arith, only-first _ _ _ (omega arith) (w .1 .left) (i .1))
+        | inr w ↦ subst keep (sym (w .1)) (i .0, only-struck _ _ _ (c .before .struck .ensures .yes (not-false _ (w .0 .left))) (i .1))
+      ],
+    )
 
 returns-2 : tie.Need-returns-2 Inv-loop μ-loop
 returns-2 c = (c .before .loop .inv .1 .0, λ h u hu. let l = c .loop-test .left in c .before .loop .inv .1 .1 u (omega arith))

@@ -60,12 +60,13 @@ loop-again c =
     let r = m .loop .inv .1 in
     let e = c .before .if1 .taken in
     let keep : List ℕ → Type 0 = λ codes. Reading (view (m .before .args .p)) (at (m .before .args .t2)) (m .before .args .t3) codes (m .loop .i + 1) in
-    let h : m .loop .i < 256 = omega (arith, m .before .pre .terms) in
-    (omega arith,
-    elim (c .if2 .came) [
-      | inl w ↦ subst keep (sym (w .3)) (read-only _ _ _ _ _ _ h r (w .0 .taken) (w .1 .ensures .1 (below-16 _ (w .1 .ensures .0) (w .2 .left))))
-      | inr w ↦ subst keep (sym (w .1)) (read-decided _ _ _ _ _ _ h r (w .0 .left) refl)
-    ])
+    let h : m .loop .i < 256 = omega (arith, m .before .pre .terms) in (
+      omega arith,
+      elim (c .if2 .came) [
+        | inl w ↦ subst keep (sym (w .3)) (read-only _ _ _ _ _ _ h r (w .0 .taken) (w .1 .ensures .1 (below-16 _ (w .1 .ensures .0) (w .2 .left))))
+        | inr w ↦ subst keep (sym (w .1)) (read-decided _ _ _ _ _ _ h r (w .0 .left) refl)
+      ],
+    )
 
 returns-2 : tie.Need-returns-2 Inv-loop μ-loop
 returns-2 c =

@@ -41,16 +41,17 @@ loop-again : tie.Need-loop-again Inv-loop μ-loop
 loop-again c =
     let m = c .before .before .before in
     let f = m .loop .inv .1 in
-    let keep : (flags : List ℕ) → Type 0 = λ flags. Flagged (at (m .before .args .t1 .sort)) (at (m .before .args .t2)) (m .before .args .sort) flags (m .loop .j + 1) in
-    (omega arith,
-    elim (c .if1 .came) [
-      | inl w ↦ subst keep (sym (w .3)) (flagged-more _ _ _ _ _ f _ (w .2 .taken) (w .1 .ensures .0))
-      | inr v ↦
-          elim v [
-            | inl w ↦ subst keep (sym (w .3)) (flagged-high _ _ _ _ _ f _ (w .2 .left) (w .1 .ensures .0))
-            | inr w ↦ subst keep (sym (w .1)) (flagged-other _ _ _ _ _ f (w .0 .left))
-          ]
-    ])
+    let keep : (flags : List ℕ) → Type 0 = λ flags. Flagged (at (m .before .args .t1 .sort)) (at (m .before .args .t2)) (m .before .args .sort) flags (m .loop .j + 1) in (
+      omega arith,
+      elim (c .if1 .came) [
+        | inl w ↦ subst keep (sym (w .3)) (flagged-more _ _ _ _ _ f _ (w .2 .taken) (w .1 .ensures .0))
+        | inr v ↦
+            elim v [
+              | inl w ↦ subst keep (sym (w .3)) (flagged-high _ _ _ _ _ f _ (w .2 .left) (w .1 .ensures .0))
+              | inr w ↦ subst keep (sym (w .1)) (flagged-other _ _ _ _ _ f (w .0 .left))
+            ]
+      ],
+    )
 
 returns : tie.Need-returns Inv-loop μ-loop
 returns c = λ j h. let l = c .loop-test .left in c .before .loop .inv .1 .all j (omega arith)
