@@ -1,5 +1,6 @@
-// Random small sheets from a fixed seed. Judge and forced are asked about each, and what they give is compared with a listing of
-// all interpretations. The numbers printed are fixed by the seed; a difference is printed with its sheet.
+// Random small sheets from a fixed seed. Find, judge, table of a name and forced are asked about each, and what they give is compared
+// with a listing of all interpretations. The numbers printed are fixed by the seed; a difference is printed with its sheet.
+mod finds;
 mod forces;
 mod judges;
 mod stretches;
@@ -33,7 +34,7 @@ fn compare(p: Plan, sheet: &[u8], counts: &mut [u64; 32]) {
     let candidates = listing::answer::candidates(p);
     if candidates <= listing::cells::BUDGET {
         tally::add(counts, tally::CANDIDATES, candidates);
-        tally::add(counts, tally::LISTED, 1);
+        finds::compare(p, sheet, counts);
         judges::compare(p, sheet, counts);
     }
     let structures = listing::apart::structures(p);

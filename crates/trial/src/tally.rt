@@ -18,6 +18,12 @@ pub const LISTED: usize = 5;
 
 pub const CANDIDATES: usize = 6;
 
+pub const FOUND: usize = 7;
+
+pub const NO_ANSWER: usize = 8;
+
+pub const SHORT: usize = 9;
+
 pub const FITS: usize = 10;
 
 pub const OUT_OF_BOUNDS: usize = 11;
@@ -101,8 +107,11 @@ pub fn report(counts: &[u64; 32]) {
     line(b"- without expressions", counts, NO_TERMS);
     line(b"- without statements", counts, NO_LITERALS);
     line(b"- with a floor above its ceiling", counts, CROSSED);
-    line(b"judge: sheets", counts, LISTED);
+    line(b"find and judge: sheets", counts, LISTED);
     line(b"- interpretations listed", counts, CANDIDATES);
+    line(b"- found", counts, FOUND);
+    line(b"- refused 11", counts, NO_ANSWER);
+    line(b"- refused 10, a buffer one byte short", counts, SHORT);
     line(b"- fits", counts, FITS);
     line(b"- out of bounds", counts, OUT_OF_BOUNDS);
     line(b"- broken statement", counts, BROKEN);
