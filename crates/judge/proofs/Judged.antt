@@ -2,14 +2,14 @@
 use Prim.Native.Nat.{ℕ, _+_}
 use native.Mathlib.Decide.{decLt}
 use native.Mathlib.Omega.{arith}
-use mathlib.Core.Path.{_≡_, refl, ap, sym, _∙_, subst}
-use mathlib.Core.Bool.{true}
+use mathlib.Core.Path.{_≡_, refl, ap, ap₂, sym, _∙_, subst}
+use mathlib.Core.Bool.{Bool, true, false}
 use mathlib.Core.Logic.{inl, inr, _↔_}
 use mathlib.Core.List.{List}
 use lib.ListN.{length}
 use Rattle.logic.specs.Sheet.{Sheet, Literal, literalAt}
 use Rattle.logic.specs.Structure.{at, code, Bounded}
-use Rattle.sheet.specs.Layout.{accepted, refused, reading}
+use Rattle.sheet.specs.Layout.{accepted, refused, reading, if}
 use Rattle.tables.specs.declared.Judgement.{Judgement}
 use Rattle.tables.specs.declared.Judgement.the-variants.{Fits, OutOfBounds, Broken, Refused}
 use Rattle.tables.specs.Layout.{decoded, WellLaid}
@@ -42,16 +42,24 @@ module _ (sh : Sheet) (t : List ℕ) where
             (w, b, f .1, λ j h. holds-true given (literalAt sh j) (f .2 j h), holds-false given (literalAt sh k) (f .3))
       ]
 
+  -- the reply by the two tests
+  pub judged-by : (a b : Bool) → wellLaid sh t ≡ a → inBounds sh (at t) ≡ b → judged sh t ≡ if a (if b (statements given 0 (sh .literals)) OutOfBounds) (Refused 12 0)
+  unfolding judged
+  judged-by a b e f = ap₂ (λ (x y : Bool). if x (if y (statements given 0 (sh .literals)) OutOfBounds) (Refused 12 0)) e f
+
   -- the reply is true
   pub says-judged : Says sh t (judged sh t)
-  unfolding judged
   says-judged =
       elim (decided (wellLaid sh t)) [
-        | inr e ↦ rw e (refl, refl, λ w. true-not-false (wellLaid sh t) (well-laid-test sh t .1 w) e)
+        | inr e ↦
+            subst (Says sh t) (sym (judged-by false (inBounds sh (at t)) e refl))
+            (refl, refl, λ w. true-not-false (wellLaid sh t) (well-laid-test sh t .1 w) e)
         | inl e ↦
             elim (decided (inBounds sh (at t))) [
-              | inr f ↦ rw (e, f) (well-laid-test sh t .0 e, λ b. true-not-false (inBounds sh (at t)) (in-bounds-test sh t (at t) .1 b) f)
-              | inl f ↦ rw (e, f) (says-statements (well-laid-test sh t .0 e) (in-bounds-test sh t (at t) .0 f))
+              | inr f ↦
+                  subst (Says sh t) (sym (judged-by true false e f))
+                  (well-laid-test sh t .0 e, λ b. true-not-false (inBounds sh (at t)) (in-bounds-test sh t (at t) .1 b) f)
+              | inl f ↦ subst (Says sh t) (sym (judged-by true true e f)) (says-statements (well-laid-test sh t .0 e) (in-bounds-test sh t (at t) .0 f))
             ]
       ]
 

@@ -3,7 +3,7 @@ use Prim.Native.Nat.{ℕ, suc, _+_, _≤_, _<_}
 use native.Mathlib.Numerals.{add-one}
 use native.Mathlib.Decide.{decLt}
 use native.Mathlib.Omega.{arith}
-use mathlib.Core.Path.{_≡_, refl, ap, _∙_, fun-ext}
+use mathlib.Core.Path.{_≡_, refl, ap, sym, _∙_, fun-ext}
 use mathlib.Core.Bool.{true, false}
 use mathlib.Core.Logic.{inl, inr}
 use mathlib.Core.List.{List}
@@ -21,20 +21,18 @@ use Rattle.tables.proofs.Tests.{decided}
 use Rattle.tables.proofs.Laid.{well-laid-test}
 use Rattle.tables.proofs.Arrays.{symbols-packed}
 use Rattle.tables.proofs.Whole.{laid-offset}
+use Rattle.judge.proofs.Judged.{judged-by}
 use Rattle.judge.specs.Judge.{judged, stretchOf, Spans}
 
 -- the replies of judge, by its tests
 pub judged-refused : (sh : Sheet) (t : List ℕ) → wellLaid sh t ≡ false → Refused 12 0 ≡ judged sh t
-unfolding judged
-judged-refused sh t e = rw e refl
+judged-refused sh t e = sym (judged-by sh t false (inBounds sh (at t)) e refl)
 
 pub judged-out : (sh : Sheet) (t : List ℕ) → wellLaid sh t ≡ true → inBounds sh (at t) ≡ false → OutOfBounds ≡ judged sh t
-unfolding judged
-judged-out sh t e f = rw (e, f) refl
+judged-out sh t e f = sym (judged-by sh t true false e f)
 
 pub judged-statements : (sh : Sheet) (t : List ℕ) (c : ℕ → ℕ) → wellLaid sh t ≡ true → inBounds sh (at t) ≡ true → ((i : ℕ) → c i ≡ code (decoded sh t) sh i) → statements c 0 (sh .literals) ≡ judged sh t
-unfolding judged
-judged-statements sh t c e f h = rw (e, f) (ap (λ (g : ℕ → ℕ). statements g 0 (sh .literals)) (fun-ext h))
+judged-statements sh t c e f h = ap (λ (g : ℕ → ℕ). statements g 0 (sh .literals)) (fun-ext h) ∙ sym (judged-by sh t true true e f)
 
 -- the stretches of table of a name, by its tests
 pub span-missing : (sh : Sheet) (p : Parsed) (t : List ℕ) (f : ℕ) → Packs sh p → p .symbols ≤ f → Spans 0 0 (stretchOf sh t f)

@@ -5,6 +5,10 @@ use tables::Judgement;
 ghost use Prim.Native.Nat.{_≤_, _<_};
 ghost use lib.ListN.{length};
 
+fn wide(x: u8) -> u64 {
+    x as u64
+}
+
 // Prints judge's reply as a line.
 fn reply(sheet: &[u8], tables: &[u8]) {
     match judge::judge(sheet, tables) {
@@ -36,7 +40,7 @@ fn print_table(name: usize, cells: &[u8]) {
     let mut i: usize = 0;
     while i < cells.len() {
         io::write_all(STDOUT_FILENO, b" ");
-        io::print_decimal(STDOUT_FILENO, cells[i] as u64);
+        io::print_decimal(STDOUT_FILENO, wide(cells[i]));
         i += 1;
     }
     io::write_all(STDOUT_FILENO, b"\n");

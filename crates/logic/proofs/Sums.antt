@@ -1,7 +1,6 @@
 -- Sums of the first values of a function.
-use Prim.Native.Nat.{ℕ, zero, suc, _*_, _≤_, _<_}
+use Prim.Native.Nat.{ℕ, zero, suc, _≤_, _<_}
 use native.Mathlib.Decide.{decLt}
-use native.Mathlib.Nat.{suc-mul}
 use native.Mathlib.Omega.{arith}
 use mathlib.Core.Path.{_≡_}
 use Rattle.logic.specs.Structure.{sumTo}
@@ -19,8 +18,3 @@ sumTo-grows m (suc n) f h =
       | yes l ↦ let e : m ≡ suc n = omega arith in rw e (omega arith)
       | no l ↦ omega (arith, sumTo-grows m n f (omega arith))
     ]
-
--- n values of at most b each
-pub sumTo-bounded : (n b : ℕ) (f : ℕ → ℕ) → ((i : ℕ) → i < n → f i ≤ b) → sumTo n f ≤ n * b
-sumTo-bounded zero b f h = omega arith
-sumTo-bounded (suc n) b f h = omega (arith, sumTo-bounded n b f (λ i l. h i (omega arith)), h n (omega arith), suc-mul n b)

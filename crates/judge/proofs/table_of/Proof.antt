@@ -28,21 +28,21 @@ sub-result c =
     let s = c .before .before .before .before .before .before .args in
     let q = c .before .before .before .parse in
     let i = table-accepted (s .sheet .now) (q .result) (q .ensures) (s .tables .now) (s .name) (c .span-of .result .start) (c .span-of .result .end) (c .before .before .if1 .left) (c .span-of .ensures) in
-    i .forth
+    omega (arith, i .forth)
 
 part-result-start : tie.Need-part-result-start
 part-result-start c =
     let s = c .before .before .before .before .before .before .args in
     let q = c .before .before .before .parse in
     let i = table-accepted (s .sheet .now) (q .result) (q .ensures) (s .tables .now) (s .name) (c .span-of .result .start) (c .span-of .result .end) (c .before .before .if1 .left) (c .span-of .ensures) in
-    i .forth
+    omega (arith, i .forth)
 
 part-result-end : tie.Need-part-result-end
 part-result-end c =
     let s = c .before .before .before .before .before .before .args in
     let q = c .before .before .before .parse in
     let i = table-accepted (s .sheet .now) (q .result) (q .ensures) (s .tables .now) (s .name) (c .span-of .result .start) (c .span-of .result .end) (c .before .before .if1 .left) (c .span-of .ensures) in
-    i .within
+    omega (arith, i .forth, i .within)
 
 returns-2 : tie.Need-returns-2
 returns-2 c =

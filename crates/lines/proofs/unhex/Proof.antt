@@ -1,4 +1,4 @@
--- `lines::unhex` meets its contract.
+-- `lines::unhex` meets its contract. The buffer keeps its length.
 use Prim.Native.Nat.{_≤_, _-_}
 use mathlib.Core.Path.{_≡_}
 use native.Mathlib.Omega.{arith}
