@@ -23,11 +23,53 @@ use crate::plan::with_term;
 const NONE: usize = 255;
 
 pub fn draw(state: &mut u64) -> Plan {
+    if pick(state, 8) == 0 {
+        return choice(state);
+    }
     let a = sorts(empty(), state);
     let b = symbols(a, state);
     let c = terms(b, state);
     let d = literals(c, state);
     total(d, state)
+}
+
+// A sheet of which two terms differ as soon as one of two sorts has a second code, so that several lists of sizes may have the least sum.
+fn choice(state: &mut u64) -> Plan {
+    let result = pick(state, 3);
+    let a = choice_sort(empty(), result, state);
+    let b = choice_sort(a, result, state);
+    let c = choice_sort(b, result, state);
+    let d = choice_symbols(c, result, (result % 3 + 1) % 3, (result % 3 + 2) % 3);
+    let e = literals(choice_terms(d), state);
+    total(e, state)
+}
+
+// The result's sort has two codes, the others may have one.
+fn choice_sort(p: Plan, result: usize, state: &mut u64) -> Plan {
+    let more = pick(state, 2);
+    if p.sorts == result {
+        return with_sort(p, 2, 2);
+    }
+    with_sort(p, 1, plus(2, more))
+}
+
+// Two constants of each of two sorts, and a symbol that takes both sorts.
+fn choice_symbols(p: Plan, result: usize, param0: usize, param1: usize) -> Plan {
+    let x = with_symbol(p, param0, 0, 0, 0);
+    let y = with_symbol(x, param0, 0, 0, 0);
+    let z = with_symbol(y, param1, 0, 0, 0);
+    let w = with_symbol(z, param1, 0, 0, 0);
+    with_symbol(w, result, 2, param0, param1)
+}
+
+fn choice_terms(p: Plan) -> Plan {
+    let x = with_term(p, 0, 0, 0);
+    let y = with_term(x, 1, 0, 0);
+    let z = with_term(y, 2, 0, 0);
+    let w = with_term(z, 3, 0, 0);
+    let left = with_term(w, 4, 0, 2);
+    let right = with_term(left, 4, 1, 3);
+    with_literal(right, 0, 4, 5)
 }
 
 fn sorts(p: Plan, state: &mut u64) -> Plan {
