@@ -1,5 +1,7 @@
--- The answers of judge as one number of 32 bits: a refusal has its number in the upper 16 bits and its place in the lower.
+-- The answers of find and judge as one number of 32 bits: a refusal has its number in the upper 16 bits and its place in the lower.
 use Prim.Native.Nat.{ℕ, _+_, _*_}
+use Rattle.finder.specs.declared.Finding.{Finding}
+use Rattle.finder.specs.declared.Finding.the-variants as found
 use Rattle.tables.specs.declared.Judgement.{Judgement}
 use Rattle.tables.specs.declared.Judgement.the-variants.{Fits, OutOfBounds, Broken, Refused}
 
@@ -12,3 +14,8 @@ judgeNumber Fits = 0
 judgeNumber OutOfBounds = 1
 judgeNumber (Broken k) = 2 + k
 judgeNumber (Refused n place) = refusalNumber n place
+
+-- find: the sum of the sizes
+abbrev pub findNumber : Finding → ℕ
+findNumber (found.Found sum) = sum
+findNumber (found.Refused n place) = refusalNumber n place

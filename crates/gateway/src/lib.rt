@@ -1,9 +1,12 @@
 // Find and judge for C programs: byte buffers in, one number out. The C side is c/deodarloo.h.
+use finder::Finding;
 use tables::Judgement;
 ghost use mathlib.Core.Path.{_≡_};
 ghost use Prim.Native.Nat.{_<_};
 ghost use Rattle.judge.specs.Judge.{judgement};
-ghost use Rattle.gateway.specs.Number.{refusalNumber, judgeNumber};
+ghost use lib.ListN.{length};
+ghost use Rattle.finder.specs.Find.{finding, codesAfter, tablesAfter};
+ghost use Rattle.gateway.specs.Number.{refusalNumber, findNumber, judgeNumber};
 
 // A refusal as one number.
 fn refusal(number: u8, place: usize) -> u32
@@ -11,6 +14,21 @@ fn refusal(number: u8, place: usize) -> u32
     ensures { λ r. ⌜ r ≡ refusalNumber number place ⌝ }
 {
     (number as u32) * 65536 + (place as u32)
+}
+
+// Finds the first answer to a sheet: the sum of its sizes, or the refusal. The codes stand in front of `codes` and the tables in front
+// of `tables`, and every other byte of both is as it was.
+#[no_mangle]
+pub extern "C" fn find(sheet: &[u8], codes: &mut [u8], tables: &mut [u8]) -> u32
+    ensures result { λ r. ⌜ r ≡ findNumber (finding (now (sheet .entry)) (length (now (codes .entry))) (length (now (tables .entry)))) ⌝ }
+    ensures codes { λ _. ⌜ now (codes .exit) ≡ codesAfter (now (sheet .entry)) (now (codes .entry)) (now (tables .entry)) ⌝ }
+    ensures tables { λ _. ⌜ now (tables .exit) ≡ tablesAfter (now (sheet .entry)) (now (codes .entry)) (now (tables .entry)) ⌝ }
+{
+    let found = finder::find(sheet, codes, tables);
+    match found {
+        Finding::Found { sum } => sum as u32,
+        Finding::Refused { number, place } => refusal(number, place),
+    }
 }
 
 // Judges offered tables: 0 where they fit, 1 out of bounds, 2 + k where statement k is the first that is broken, or the refusal.
