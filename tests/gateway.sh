@@ -1,0 +1,26 @@
+#!/usr/bin/env bash
+# Builds the C programs of the gateway on the archive of this tree, and compares what they print: the courier on every worked sheet with what the
+# find program's expected output says, and the guard's calls with guard bytes around every buffer. Run from the repository's top.
+set -u
+rt staticlib gateway >target/gateway.log 2>&1 || { cat target/gateway.log; exit 1; }
+for program in courier guard; do
+    cc -Wall -Wextra -O2 -o "target/$program" "crates/gateway/c/$program.c" target/staticlib/libgateway.a || exit 1
+done
+failed=0
+for sheet in examples/*.sheet; do
+    want=${sheet%.sheet}.out
+    got=$(target/courier "$sheet")
+    first=$(printf '%s\n' "$got" | head -n 1)
+    [ "$first" = "$(head -n 1 "$want")" ] || { echo "courier: $sheet: $first"; failed=1; }
+    case "$first" in
+    found*)
+        tables=$(printf '%s\n' "$got" | sed -n 's/^tables //p')
+        cells=$(sed -n -e 's/^field [0-9]* //p' -e 's/^name [0-9]* //p' "$want" | tr '\n' ' ' | sed 's/ $//')
+        [ "$tables" = "$cells" ] || { echo "courier: $sheet: tables $tables, not $cells"; failed=1; }
+        [ "$(printf '%s\n' "$got" | tail -n 1)" = "judge 0" ] || { echo "courier: $sheet: what was found does not fit"; failed=1; }
+        ;;
+    esac
+done
+target/guard examples/*.sheet || failed=1
+[ "$failed" -eq 0 ] && echo "gateway: the C programs agree"
+exit "$failed"
