@@ -1,0 +1,62 @@
+-- `listing::cells::begin` is safe and ends.
+use Prim.Native.Nat.{_≤_, _-_}
+use borrow.Author.Needs.{needs}
+use Rattle.listing.proofs.cells.begin.Statement.{statement}
+use Rattle.listing.proofs.cells.begin.Tie as tie
+
+abbrev Inv-loop : tie.InvT-loop
+Inv-loop p s tables limit₀ n k₀ limit k = k ≤ n
+
+abbrev μ-loop : tie.MeasureT-loop
+μ-loop p s tables limit₀ n k₀ limit k = n - k
+
+sizes-first-requires : tie.Need-sizes-first-requires Inv-loop μ-loop
+sizes-first-requires c κs = search needs
+
+loop-holds : tie.Need-loop-holds Inv-loop μ-loop
+loop-holds c = search needs
+
+start-of-requires : tie.Need-start-of-requires Inv-loop μ-loop
+start-of-requires c κs = search needs
+
+end-of-requires : tie.Need-end-of-requires Inv-loop μ-loop
+end-of-requires c κs = search needs
+
+result-of-requires : tie.Need-result-of-requires Inv-loop μ-loop
+result-of-requires c κs = search needs
+
+size-of-requires : tie.Need-size-of-requires Inv-loop μ-loop
+size-of-requires c κs = search needs
+
+limits-requires : tie.Need-limits-requires Inv-loop μ-loop
+limits-requires c κs = search needs
+
+add-k : tie.Need-add-k Inv-loop μ-loop
+add-k c = search needs
+
+loop-less : tie.Need-loop-less Inv-loop μ-loop
+loop-less c = search needs
+
+loop-again : tie.Need-loop-again Inv-loop μ-loop
+loop-again c = search needs
+
+returns : tie.Need-returns Inv-loop μ-loop
+returns c = search needs
+
+pub begin-spec : {M : Type 1} → statement M
+begin-spec =
+    tie.close
+    (tie.spec
+    Inv-loop
+    μ-loop
+    sizes-first-requires
+    loop-holds
+    start-of-requires
+    end-of-requires
+    result-of-requires
+    size-of-requires
+    limits-requires
+    add-k
+    loop-less
+    loop-again
+    returns)

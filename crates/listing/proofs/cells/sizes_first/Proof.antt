@@ -1,0 +1,46 @@
+-- `listing::cells::sizes_first` is safe and ends.
+use Prim.Native.Nat.{_≤_, _-_}
+use borrow.Author.Needs.{needs}
+use Rattle.listing.proofs.cells.sizes_first.Statement.{statement}
+use Rattle.listing.proofs.cells.sizes_first.Tie as tie
+
+abbrev Inv-loop : tie.InvT-loop
+Inv-loop s tables₀ n k₀ tables k = k ≤ n
+
+abbrev μ-loop : tie.MeasureT-loop
+μ-loop s tables₀ n k₀ tables k = n - k
+
+loop-holds : tie.Need-loop-holds Inv-loop μ-loop
+loop-holds c = search needs
+
+size-of-requires : tie.Need-size-of-requires Inv-loop μ-loop
+size-of-requires c κs = search needs
+
+store-requires : tie.Need-store-requires Inv-loop μ-loop
+store-requires c κs = search needs
+
+add-k : tie.Need-add-k Inv-loop μ-loop
+add-k c = search needs
+
+loop-less : tie.Need-loop-less Inv-loop μ-loop
+loop-less c = search needs
+
+loop-again : tie.Need-loop-again Inv-loop μ-loop
+loop-again c = search needs
+
+returns : tie.Need-returns Inv-loop μ-loop
+returns c = search needs
+
+pub sizes-first-spec : {M : Type 1} → statement M
+sizes-first-spec =
+    tie.close
+    (tie.spec
+    Inv-loop
+    μ-loop
+    loop-holds
+    size-of-requires
+    store-requires
+    add-k
+    loop-less
+    loop-again
+    returns)

@@ -1,0 +1,46 @@
+-- `listing::ranges::vectors` is safe and ends.
+use Prim.Native.Nat.{_≤_, _-_}
+use borrow.Author.Needs.{needs}
+use Rattle.listing.proofs.ranges.vectors.Statement.{statement}
+use Rattle.listing.proofs.ranges.vectors.Tie as tie
+
+abbrev Inv-loop : tie.InvT-loop
+Inv-loop top n v₀ k₀ v k = k ≤ n
+
+abbrev μ-loop : tie.MeasureT-loop
+μ-loop top n v₀ k₀ v k = n - k
+
+loop-holds : tie.Need-loop-holds Inv-loop μ-loop
+loop-holds c = search needs
+
+size-at-requires : tie.Need-size-at-requires Inv-loop μ-loop
+size-at-requires c κs = search needs
+
+times-requires : tie.Need-times-requires Inv-loop μ-loop
+times-requires c κs = search needs
+
+add-k : tie.Need-add-k Inv-loop μ-loop
+add-k c = search needs
+
+loop-less : tie.Need-loop-less Inv-loop μ-loop
+loop-less c = search needs
+
+loop-again : tie.Need-loop-again Inv-loop μ-loop
+loop-again c = search needs
+
+returns : tie.Need-returns Inv-loop μ-loop
+returns c = search needs
+
+pub vectors-spec : {M : Type 1} → statement M
+vectors-spec =
+    tie.close
+    (tie.spec
+    Inv-loop
+    μ-loop
+    loop-holds
+    size-at-requires
+    times-requires
+    add-k
+    loop-less
+    loop-again
+    returns)

@@ -1,0 +1,54 @@
+-- `trial::forces::compare` is safe and ends.
+use Prim.Native.Nat.{_≤_, _-_}
+use borrow.Author.Needs.{needs}
+use Rattle.trial.proofs.forces.compare.Statement.{statement}
+use Rattle.trial.proofs.forces.compare.Tie as tie
+
+abbrev Inv-loop : tie.InvT-loop
+Inv-loop p sheet counts₀ pairs n a₀ counts a = a ≤ n
+
+abbrev μ-loop : tie.MeasureT-loop
+μ-loop p sheet counts₀ pairs n a₀ counts a = n - a
+
+tell-apart-requires : tie.Need-tell-apart-requires Inv-loop μ-loop
+tell-apart-requires c κs = search needs
+
+add-requires : tie.Need-add-requires Inv-loop μ-loop
+add-requires c κs = search needs
+
+loop-holds : tie.Need-loop-holds Inv-loop μ-loop
+loop-holds c = search needs
+
+with-each-requires : tie.Need-with-each-requires Inv-loop μ-loop
+with-each-requires c κs = search needs
+
+add-a : tie.Need-add-a Inv-loop μ-loop
+add-a c = search needs
+
+loop-less : tie.Need-loop-less Inv-loop μ-loop
+loop-less c = search needs
+
+loop-again : tie.Need-loop-again Inv-loop μ-loop
+loop-again c = search needs
+
+with-each-requires-2 : tie.Need-with-each-requires-2 Inv-loop μ-loop
+with-each-requires-2 c κs = search needs
+
+returns : tie.Need-returns Inv-loop μ-loop
+returns c = search needs
+
+pub compare-spec : {M : Type 1} → statement M
+compare-spec =
+    tie.close
+    (tie.spec
+    Inv-loop
+    μ-loop
+    tell-apart-requires
+    add-requires
+    loop-holds
+    with-each-requires
+    add-a
+    loop-less
+    loop-again
+    with-each-requires-2
+    returns)
