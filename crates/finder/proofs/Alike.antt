@@ -10,6 +10,8 @@ use Rattle.logic.specs.Structure.{Structure, InSorts, Interprets, Candidate, co
 use Rattle.logic.specs.Order.{sizesOf, sumOf}
 use Rattle.logic.proofs.Codes.{reached-in-params, same-code, same-codes, satisfies-same}
 use Rattle.logic.proofs.Meaning.{firsts-same, sumTo-same}
+use Rattle.tables.specs.Layout.{decoded, encoded}
+use Rattle.tables.proofs.Tables.{encoded-size, decoded-cell}
 use Rattle.finder.specs.Answer.{Entry, sum}
 use Rattle.finder.specs.Demand.{Answers}
 
@@ -17,6 +19,10 @@ use Rattle.finder.specs.Demand.{Answers}
 pub record Alike (sh : Sheet) (M N : Structure) : Type 0 where
   pub size : (s : ℕ) → s < length (sh .bounds) → N .size s ≡ M .size s
   pub table : (f : ℕ) → f < length (sh .symbols) → (cs : List ℕ) → InSorts (M .size) (symbolAt sh f .params) cs → N .table f cs ≡ M .table f cs
+
+-- THE ROUND TRIP: the structure that the bytes of M's tables hold
+pub round-trip : (sh : Sheet) → WellFormed sh → (M : Structure) → Alike sh M (decoded sh (encoded M sh))
+round-trip sh w M = record { size = encoded-size M sh w; table = decoded-cell M sh w }
 
 in-sorts-same : (n : ℕ) (size size′ : ℕ → ℕ) → ((s : ℕ) → s < n → size′ s ≡ size s) → (ss cs : List ℕ) → Each (λ s. s < n) ss → InSorts size′ ss cs → InSorts size ss cs
 in-sorts-same n size size′ same [] [] e i = tt

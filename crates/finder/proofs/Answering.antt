@@ -12,12 +12,12 @@ use Rattle.logic.proofs.Meaning.{length-firsts, firsts-at, firsts-same}
 use Rattle.sheet.specs.declared.Parsed.{Parsed}
 use Rattle.tables.specs.Layout.{extent}
 use Rattle.tables.specs.Parts.{Packs}
+use Rattle.tables.proofs.Arrays.{packs-views}
+use Rattle.tables.proofs.Tables.{length-encoded}
 use Rattle.finder.specs.Answer.{entryOf, structureOf}
 use Rattle.finder.specs.Find.{fronted}
 use Rattle.finder.specs.Fill.{Writable, AnswerWritten, answerBytes}
 use Rattle.finder.proofs.Listing.{sum-firsts}
-use Rattle.finder.proofs.Encoding.{length-encoded}
-use Rattle.finder.proofs.Writing.{packs-views}
 
 -- the first entries of a list, as a part of it and as values
 firsts-take : (n : ℕ) (l : List ℕ) → n ≤ length l → firsts n (at l) ≡ take n l
@@ -67,6 +67,6 @@ module _ (p : Parsed) (sizes codes : List ℕ) (sh : Sheet) (k : Packs sh p) whe
               arith,
               length-firsts (p .sorts) (at sizes),
               packs-views sh p k .sorts,
-              length-encoded sh (k .formed) (structureOf sh (entryOf sh (at sizes) (at codes))),
+              length-encoded (structureOf sh (entryOf sh (at sizes) (at codes))) sh (k .formed),
             ));
       }

@@ -13,6 +13,7 @@ use Rattle.logic.proofs.Meaning.{length-codes}
 use Rattle.sheet.specs.Layout.{Reading, accepted, reading}
 use Rattle.sheet.proofs.Answers.{accepted-well-formed}
 use Rattle.tables.specs.Layout.{extent, decoded, encoded}
+use Rattle.tables.proofs.Tables.{length-encoded, encoded-size, encoded-laid, extent-same, extent-at-ceilings}
 use Rattle.judge.specs.Judge.{judgedOf, judgement}
 use Rattle.tables.specs.declared.Judgement.the-variants.{Fits}
 use Rattle.judge.proofs.Judged.{judged-says}
@@ -24,8 +25,7 @@ use Rattle.finder.proofs.Lists.{found-or-none}
 use Rattle.finder.proofs.Demand.{demand}
 use Rattle.finder.proofs.Outcomes.{outcome-long}
 use Rattle.finder.proofs.Buffers.{Exit, exit, front-fronted, rest-fronted}
-use Rattle.finder.proofs.Alike.{alike-answers}
-use Rattle.finder.proofs.Encoding.{length-encoded, encoded-size, round-trip, encoded-laid, extent-same, extent-monotone}
+use Rattle.finder.proofs.Alike.{alike-answers, round-trip}
 
 module _ (sh : Sheet) (w : WellFormed sh) (s cs ts : List ℕ) (reads : reading s ≡ accepted sh) (codesFit : length (sh .terms) ≤ length cs) (tablesFit : extent sh (ceilings sh) ≤ length ts) where
   -- what the answer makes of the call
@@ -48,18 +48,18 @@ module _ (sh : Sheet) (w : WellFormed sh) (s cs ts : List ℕ) (reads : reading 
 
     pub tables-room : length bytes ≤ length ts
     tables-room =
-        omega (arith, length-encoded sh w (structureOf sh e), extent-monotone sh w (structureOf sh e .size) (ceilings sh) (given .candidate .bounded .ceiling))
+        omega (arith, length-encoded (structureOf sh e) sh w, extent-at-ceilings sh w (structureOf sh e .size) (given .candidate .bounded))
 
     -- the tables in front of the buffer are as long as their own sizes say
     extended : extent sh (at (tablesAfter s cs ts)) ≡ length bytes
     extended =
-        extent-same sh w (at (tablesAfter s cs ts)) (structureOf sh e .size) same ∙ sym (length-encoded sh w (structureOf sh e))
+        extent-same sh w (at (tablesAfter s cs ts)) (structureOf sh e .size) same ∙ sym (length-encoded (structureOf sh e) sh w)
       where
         same : (i : ℕ) → i < length (sh .bounds) → at (tablesAfter s cs ts) i ≡ structureOf sh e .size i
         same i h =
             ap (λ (l : List ℕ). at l i) (exits (some e) q .tables)
-            ∙ List·getD-append bytes (drop (length bytes) ts) 0 i (omega (arith, length-encoded sh w (structureOf sh e)))
-            ∙ encoded-size sh w (structureOf sh e) i h
+            ∙ List·getD-append bytes (drop (length bytes) ts) 0 i (omega (arith, length-encoded (structureOf sh e) sh w))
+            ∙ encoded-size (structureOf sh e) sh w i h
 
     written : tablesWritten sh (tablesAfter s cs ts) ≡ bytes
     written =
@@ -78,7 +78,7 @@ module _ (sh : Sheet) (w : WellFormed sh) (s cs ts : List ℕ) (reads : reading 
         let g : Answers sh e (decoded sh bytes) = alike-answers sh w (structureOf sh e) (decoded sh bytes) (round-trip sh w (structureOf sh e)) e given in
         rw written
         (record {
-          laid = encoded-laid sh w (structureOf sh e) (given .candidate);
+          laid = encoded-laid (structureOf sh e) sh w (given .candidate .interprets) (λ i h. omega (arith, given .candidate .bounded .ceiling i h, w .ceiling i h .1));
           candidate = g .candidate;
           satisfies = g .satisfies;
           sum = sym (g .sum);

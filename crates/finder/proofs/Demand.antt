@@ -124,7 +124,7 @@ answers-with sh w e q u t =
           | inr l ↦ sooner-asym e (entryOf sh size c) l s
         ]
 
--- what an unreached cell holds today is a code of its sort
+-- what the answer puts in an unreached cell is a code of its sort
 unforced-in-tables : (sh : Sheet) (e : Entry) → ((s : ℕ) → s < length (sh .bounds) → 1 ≤ at (e .sizes) s) → WellFormed sh → InTables sh (at (e .sizes)) (unforced sh e)
 unfolding unforced
 unforced-in-tables sh e h w f l cs i = h (symbolAt sh f .result) (w .result f l)

@@ -7,12 +7,10 @@ pub mod Outcomes
 pub mod Joint
 pub mod Buffers
 pub mod Alike
-pub mod Encoding
 pub mod Delivery
 pub mod Worked
 pub mod Reach
 pub mod Filling
-pub mod Grid
 pub mod Writing
 pub mod Answering
 pub mod Searching

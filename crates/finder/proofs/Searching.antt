@@ -20,8 +20,9 @@ use Rattle.judge.proofs.Questions.{number-accepted, packs}
 use Rattle.sheet.proofs.Answers.{accepted-well-formed}
 use Rattle.tables.specs.Layout.{extent}
 use Rattle.tables.specs.Parts.{Packs, Limited}
-use Rattle.tables.proofs.Arrays.{symbols-packed}
+use Rattle.tables.proofs.Arrays.{packs-views, symbols-packed}
 use Rattle.tables.proofs.Whole.{packs-limited}
+use Rattle.tables.proofs.Tables.{extent-monotone}
 use Rattle.codes.specs.Searchable.{Searchable}
 use Rattle.finder.specs.Answer.{entryOf}
 use Rattle.finder.specs.Find.{Outcome, turnedDown, answered, outcome, finds, codesIn, tablesIn, ceilings, finding, codesAfter, tablesAfter}
@@ -31,8 +32,6 @@ use Rattle.finder.specs.declared.Finding.the-variants.{Found, Refused}
 use Rattle.finder.proofs.Outcomes.{outcome-refused, outcome-short}
 use Rattle.finder.proofs.Joint.{well-sorted, outcome-none, outcome-least}
 use Rattle.finder.proofs.Buffers.{Exit, exit}
-use Rattle.finder.proofs.Encoding.{extent-monotone}
-use Rattle.finder.proofs.Writing.{packs-views}
 
 -- what the outcome of a call makes of the result and the buffers
 pub outcome-finds :

@@ -15,8 +15,9 @@ use Rattle.logic.specs.Structure.{at, Holds}
 use Rattle.logic.proofs.Meaning.{map-each}
 use Rattle.logic.proofs.Codes.{holds-same}
 use Rattle.sheet.specs.Layout.{if, sameList}
+use Rattle.sheet.proofs.Bools.{and-both}
 use Rattle.tables.specs.Tests.{holds}
-use Rattle.tables.proofs.Tests.{decided, both, and-both, holds-true, holds-false}
+use Rattle.tables.proofs.Tests.{decided, both-true, holds-true, holds-false}
 use Rattle.finder.specs.Answer.{Cell, cellOf, cellsFrom, reachedCells, agrees, functional, allHold, solves, cellAt}
 use Rattle.finder.proofs.Lists.{Mem}
 
@@ -25,12 +26,12 @@ same-list [] [] e = refl
 same-list [] (y ∷ ys) e = absurd (false≢true e)
 same-list (x ∷ xs) [] e = absurd (false≢true e)
 same-list (x ∷ xs) (y ∷ ys) e =
-    let p : (eqb x y ≡ true) × (sameList xs ys ≡ true) = both (eqb x y) (sameList xs ys) e in
+    let p : (eqb x y ≡ true) × (sameList xs ys ≡ true) = and-both (eqb x y) (sameList xs ys) e in
     ap₂ (λ (a : ℕ) (l : List ℕ). a ∷ l) (eqb-true x y (p .0)) (same-list xs ys (p .1))
 
 list-same : (xs : List ℕ) → sameList xs xs ≡ true
 list-same [] = refl
-list-same (x ∷ xs) = and-both (eqb x x) (sameList xs xs) (eq-eqb x x refl) (list-same xs)
+list-same (x ∷ xs) = both-true (eqb x x) (sameList xs xs) (eq-eqb x x refl) (list-same xs)
 
 -- two cells with one key hold one code
 abbrev Agreed : Cell → Cell → Type 0
@@ -53,7 +54,7 @@ agreeing k l a b h = step (sameList k l) refl
 agrees-all : (x : Cell) (xs : List Cell) → agrees x xs ≡ true → (y : Cell) → Mem y xs → Agreed x y
 agrees-all x [] e y m = absurd m
 agrees-all x (z ∷ xs) e y m =
-    let p : _ = both (not (sameList (x .key) (z .key)) || eqb (x .code) (z .code)) (agrees x xs) e in
+    let p : _ = and-both (not (sameList (x .key) (z .key)) || eqb (x .code) (z .code)) (agrees x xs) e in
     elim m [
       | inl q ↦ rw q (agreed (x .key) (z .key) (x .code) (z .code) (p .0))
       | inr n ↦ agrees-all x xs (p .1) y n
@@ -62,13 +63,13 @@ agrees-all x (z ∷ xs) e y m =
 all-agrees : (x : Cell) (xs : List Cell) → ((y : Cell) → Mem y xs → Agreed x y) → agrees x xs ≡ true
 all-agrees x [] h = refl
 all-agrees x (z ∷ xs) h =
-    and-both (not (sameList (x .key) (z .key)) || eqb (x .code) (z .code)) (agrees x xs)
+    both-true (not (sameList (x .key) (z .key)) || eqb (x .code) (z .code)) (agrees x xs)
     (agreeing (x .key) (z .key) (x .code) (z .code) (h z (inl refl)))
     (all-agrees x xs (λ y m. h y (inr m)))
 
 functional-all : (xs : List Cell) → functional xs ≡ true → (x y : Cell) → Mem x xs → Mem y xs → Agreed x y
 functional-all [] e x y m n = absurd m
-functional-all (z ∷ xs) e x y m n = step (both (agrees z xs) (functional xs) e) m n (functional-all xs)
+functional-all (z ∷ xs) e x y m n = step (and-both (agrees z xs) (functional xs) e) m n (functional-all xs)
   where
     step : (agrees z xs ≡ true) × (functional xs ≡ true) → Mem x (z ∷ xs) → Mem y (z ∷ xs) → (functional xs ≡ true → (a b : Cell) → Mem a xs → Mem b xs → Agreed a b) → Agreed x y
     step p (inl q) (inl r) h k = ap (λ (a : Cell). a .code) (q ∙ sym r)
@@ -80,7 +81,7 @@ functional-all (z ∷ xs) e x y m n = step (both (agrees z xs) (functional xs) e
 all-functional : (xs : List Cell) → ((x y : Cell) → Mem x xs → Mem y xs → Agreed x y) → functional xs ≡ true
 all-functional [] h = refl
 all-functional (z ∷ xs) h =
-    and-both (agrees z xs) (functional xs)
+    both-true (agrees z xs) (functional xs)
     (all-agrees z xs (λ y m. h z y (inl refl) (inr m)))
     (all-functional xs (λ x y m n. h x y (inr m) (inr n)))
 
@@ -121,13 +122,13 @@ literalIn ls k = getD ls k (record { equal = true; left = 0; right = 0 })
 
 all-hold : (c : ℕ → ℕ) (ls : List Literal) → allHold c ls ≡ true → (k : ℕ) → k < length ls → Holds c (literalIn ls k)
 all-hold c [] e k h = absurd (omega arith)
-all-hold c (l ∷ ls) e zero h = holds-true c l (both (holds c l) (allHold c ls) e .0)
-all-hold c (l ∷ ls) e (suc k) h = all-hold c ls (both (holds c l) (allHold c ls) e .1) k (omega arith)
+all-hold c (l ∷ ls) e zero h = holds-true c l (and-both (holds c l) (allHold c ls) e .0)
+all-hold c (l ∷ ls) e (suc k) h = all-hold c ls (and-both (holds c l) (allHold c ls) e .1) k (omega arith)
 
 hold-all : (c : ℕ → ℕ) (ls : List Literal) → ((k : ℕ) → k < length ls → Holds c (literalIn ls k)) → allHold c ls ≡ true
 hold-all c [] h = refl
 hold-all c (l ∷ ls) h =
-    and-both (holds c l) (allHold c ls)
+    both-true (holds c l) (allHold c ls)
     (hold-true c l (h 0 (omega arith)))
     (hold-all c ls (λ k b. h (suc k) (omega arith)))
 
@@ -135,7 +136,7 @@ pub solved : (sh : Sheet) (cs : List ℕ) → solves sh cs ≡ true → Solution
 unfolding solves
 solved sh cs e =
     let p : (functional (reachedCells sh cs) ≡ true) × (allHold (at cs) (sh .literals) ≡ true) =
-    both (functional (reachedCells sh cs)) (allHold (at cs) (sh .literals)) e in
+    and-both (functional (reachedCells sh cs)) (allHold (at cs) (sh .literals)) e in
     record {
       congruent = λ i j h k q r.
           functional-all (reachedCells sh cs) (p .0) (cellOf (at cs) i (termAt sh i)) (cellOf (at cs) j (termAt sh j))
@@ -170,7 +171,7 @@ reached-by sh c x m =
 pub solving : (sh : Sheet) (cs : List ℕ) → Solution sh (at cs) → solves sh cs ≡ true
 unfolding solves
 solving sh cs s =
-    and-both (functional (reachedCells sh cs)) (allHold (at cs) (sh .literals))
+    both-true (functional (reachedCells sh cs)) (allHold (at cs) (sh .literals))
     (all-functional (reachedCells sh cs) one)
     (hold-all (at cs) (sh .literals) (s .meets))
   where

@@ -19,27 +19,20 @@ use Rattle.logic.proofs.Meaning.{length-firsts, at-firsts, firsts-same}
 use Rattle.logic.proofs.Sums.{sumTo-grows}
 use lib.Dec.{ltb}
 use Rattle.sheet.specs.Layout.{if}
-use Rattle.sheet.specs.Packed.{first, second, view, packed}
-use Rattle.sheet.specs.Views.{Views}
+use Rattle.sheet.specs.Packed.{first, second, view}
 use Rattle.sheet.specs.declared.Parsed.{Parsed}
-use Rattle.sheet.proofs.View.{packed-views}
 use Rattle.tables.specs.Layout.{cells, offset, extent, encoded, tableBytes}
 use Rattle.tables.specs.Grid.{grid, gridCell}
 use Rattle.tables.specs.Parts.{Packs, Extents, Limited, width}
 use Rattle.tables.proofs.Whole.{packs-limited}
-use Rattle.tables.proofs.Grids.{length-grid}
-use Rattle.tables.proofs.Arrays.{param0-packed, param1-packed, params-below-8, cells-packed, symbols-packed, offset-same, width-there}
+use Rattle.tables.proofs.Grids.{length-grid, grid-is-table}
+use Rattle.tables.proofs.Tables.{length-encoded, encoded-sizes, encoded-more, encoded-whole}
+use Rattle.tables.proofs.Arrays.{packs-views, param0-packed, param1-packed, params-below-8, cells-packed, symbols-packed, offset-same, width-there}
 use Rattle.finder.specs.Answer.{Cell, Entry, entryOf, structureOf, cellsFrom, unforced}
 use Rattle.finder.specs.Answer as Answer
 use Rattle.finder.specs.Fill.{Filled, held, Writable, answerBytes}
 use Rattle.finder.specs.Find.{ceilings, fronted}
 use Rattle.finder.proofs.Reach.{rowOf, columnOf, cell-held}
-use Rattle.finder.proofs.Grid.{bytes-grid}
-use Rattle.finder.proofs.Encoding.{length-encoded, encoded-sizes, encoded-more, encoded-whole}
-
--- a packed sheet is viewed
-pub packs-views : (sh : Sheet) (p : Parsed) → Packs sh p → Views sh (view p)
-packs-views sh p k = rw (k .same) (packed-views sh)
 
 in-sorts-length : (size : ℕ → ℕ) (params xs : List ℕ) → InSorts size params xs → length xs ≡ length params
 in-sorts-length size [] [] i = refl
@@ -127,7 +120,7 @@ module _ (sh : Sheet) (p : Parsed) (k : Packs sh p) (size c : ℕ → ℕ) (sixt
       let same = widths-same (length (sh .bounds)) size (M .size) params (w .params f h) (λ s l. sym (own-size s l)) in
       ap₂ (λ (a b : ℕ). grid t (width size a) (width size b)) (param0-packed sh p k f h) (param1-packed sh p k f h)
       ∙ ap₂ (grid t) (same .0) (same .1)
-      ∙ bytes-grid M f params t (params-below-8 sh p k f h) (w .arity f h) (filled-cell f h t filled)
+      ∙ grid-is-table M f params t (w .arity f h) (params-below-8 sh p k f h) (filled-cell f h t filled)
 
   -- the stretch of a table, and the stretches before it
   pub stretch : (offsets : List ℕ) → Extents p size offsets → (f : ℕ) → f < length (sh .symbols) → at offsets (f + 1) ≡ at offsets f + width size (at (p .param0) f) * width size (at (p .param1) f)
@@ -144,13 +137,13 @@ module _ (sh : Sheet) (p : Parsed) (k : Packs sh p) (size c : ℕ → ℕ) (sixt
   same-offset f h = offset-same sh w (M .size) size own-size f h
 
   offset-within : (f : ℕ) → f ≤ length (sh .symbols) → offset sh (M .size) f ≤ length (answerBytes sh size c)
-  offset-within f h = omega (arith, length-encoded sh w M, sumTo-grows f (length (sh .symbols)) (λ g. cells (M .size) (symbolAt sh g .params)) h)
+  offset-within f h = omega (arith, length-encoded M sh w, sumTo-grows f (length (sh .symbols)) (λ g. cells (M .size) (symbolAt sh g .params)) h)
 
   pub written-none : (d : List ℕ) → length (sh .bounds) ≤ length d → take (length (sh .bounds)) d ≡ firsts (length (sh .bounds)) size → WrittenTo d 0 d
   written-none d h s =
       let n = length (sh .bounds) in
       sym (take-append-drop n d)
-      ∙ ap (λ (l : List ℕ). l ++ drop n d) (s ∙ firsts-same n size (M .size) (λ i l. sym (own-size i l)) ∙ sym (encoded-sizes sh w M))
+      ∙ ap (λ (l : List ℕ). l ++ drop n d) (s ∙ firsts-same n size (M .size) (λ i l. sym (own-size i l)) ∙ sym (encoded-sizes M sh w))
       ∙ ap (λ (m : ℕ). take m (answerBytes sh size c) ++ drop m d) (sym (add-zero n))
 
   pub written-more :
@@ -168,12 +161,12 @@ module _ (sh : Sheet) (p : Parsed) (k : Packs sh p) (size c : ℕ → ℕ) (sixt
       ∙ ap₂ (λ (a b : List ℕ). a ++ (bytes ++ drop many b)) (take-at (take o B) (drop o d) start (long ∙ sym here)) (drop-at (take o B) (drop o d) start (long ∙ sym here))
       ∙ ap₂ (λ (a b : List ℕ). take o B ++ (a ++ b)) right (drop-drop many o d ∙ ap (λ (n : ℕ). drop n d) next)
       ∙ sym (append-assoc (take o B) (tableBytes M f (symbolAt sh f .params)) (drop (offset sh (M .size) (f + 1)) d))
-      ∙ ap (λ (l : List ℕ). l ++ drop (offset sh (M .size) (f + 1)) d) (sym (ap (λ (n : ℕ). take (offset sh (M .size) n) B) (add-one f) ∙ encoded-more sh w M f h))
+      ∙ ap (λ (l : List ℕ). l ++ drop (offset sh (M .size) (f + 1)) d) (sym (ap (λ (n : ℕ). take (offset sh (M .size) n) B) (add-one f) ∙ encoded-more M sh w f h))
 
   pub written-all : (d d′ : List ℕ) → WrittenTo d (length (sh .symbols)) d′ → d′ ≡ answerBytes sh size c ++ drop (length (answerBytes sh size c)) d
   written-all d d′ so-far =
       so-far
-      ∙ ap₂ (λ (l : List ℕ) (n : ℕ). l ++ drop n d) (encoded-whole sh w M) (sym (length-encoded sh w M))
+      ∙ ap₂ (λ (l : List ℕ) (n : ℕ). l ++ drop n d) (encoded-whole M sh w) (sym (length-encoded M sh w))
 
 -- the end of the tables with every size at its ceiling
 pub ceilings-extent : (p : Parsed) (offsets : List ℕ) → Extents p (at (p .ceiling)) offsets → (sh : Sheet) → Packs sh p → at offsets (p .symbols) ≡ extent sh (ceilings sh)

@@ -2,50 +2,8 @@
 // they must have are written by tests/read_cases.py.
 use libc::STDOUT_FILENO;
 use sheet::Verdict;
-ghost use Prim.Native.Nat.{_<_, _≤_};
+ghost use Prim.Native.Nat.{_≤_};
 ghost use lib.ListN.{length};
-ghost use Rattle.io.specs.Counts.{Counts};
-
-// What a hexadecimal digit stands for, 0 for any other byte.
-fn digit(b: u8) -> u8
-    ensures { λ r. ⌜ r < 16 ⌝ }
-{
-    if b < b'0' {
-        return 0;
-    }
-    if b <= b'9' {
-        return b - b'0';
-    }
-    if b < b'a' {
-        return 0;
-    }
-    if b <= b'f' {
-        return b - b'a' + 10;
-    }
-    0
-}
-
-// The smaller of two numbers.
-fn least(a: usize, b: usize) -> usize
-    ensures { λ r. ⌜ (r ≤ a) × (r ≤ b) ⌝ }
-{
-    if a < b { a } else { b }
-}
-
-// Puts the bytes of a line at the start of out, as many as there is room for, and answers how many they are.
-fn decode(text: &[u8], from: usize, end: usize, out: &mut [u8]) -> usize
-    requires { ⌜ (from ≤ end) × (end ≤ length (now text)) ⌝ }
-    ensures { λ r. ⌜ Counts r (now (out .exit)) ⌝ }
-{
-    let n = least((end - from) / 2, out.len());
-    let mut i: usize = 0;
-    while i < n {
-        let at = from + 2 * i;
-        out[i] = digit(text[at]) * 16 + digit(text[at + 1]);
-        i += 1;
-    }
-    n
-}
 
 fn answer(bytes: &[u8]) {
     match sheet::read(bytes) {
@@ -67,31 +25,16 @@ fn answer_line(text: &[u8], from: usize, end: usize)
     requires { ⌜ (from ≤ end) × (end ≤ length (now text)) ⌝ }
 {
     let mut bytes = [0u8; 4097];
-    let n = decode(text, from, end, &mut bytes);
+    let n = lines::unhex(&mut bytes, &text[from..end]);
     answer(&bytes[..n]);
-}
-
-// Where the line that starts here ends.
-fn line_end(text: &[u8], from: usize) -> usize
-    requires { ⌜ from ≤ length (now text) ⌝ }
-    ensures { λ r. ⌜ (from ≤ r) × (r ≤ length (now (text .entry))) ⌝ }
-{
-    let mut i = from;
-    while i < text.len() {
-        if text[i] == b'\n' {
-            return i;
-        }
-        i += 1;
-    }
-    i
 }
 
 fn answer_all(text: &[u8]) {
     let mut from: usize = 0;
     while from < text.len() {
-        let end = line_end(text, from);
+        let end = lines::line_end(text, from);
         answer_line(text, from, end);
-        from = end + 1;
+        from = lines::behind(text, end);
     }
 }
 

@@ -17,11 +17,13 @@ use Rattle.logic.specs.Structure.{at, sumTo, code}
 use Rattle.logic.specs.WellFormed.{Each, WellFormed}
 use Rattle.logic.proofs.Meaning.{map-each, sumTo-same, code-is}
 use Rattle.logic.proofs.Codes.{code-past}
-use Rattle.logic.proofs.Decided.{at-set}
+use Rattle.logic.proofs.Decided.{at-set, at-zeros}
 use Rattle.sheet.specs.Layout.{within}
 use Rattle.sheet.specs.Packed.{packed, view, first, second, bit}
 use Rattle.sheet.specs.Views.{Views}
 use Rattle.sheet.specs.declared.Parsed.{Parsed}
+use Rattle.sheet.proofs.Bools.{and-no}
+use Rattle.sheet.proofs.Pairs.{each-weaken}
 use Rattle.sheet.proofs.View.{at-pad-map, packed-views}
 use Rattle.tables.specs.Layout.{cells, place, offset, decoded}
 use Rattle.tables.specs.Tests.{every, entriesRight, inBounds, agree, holds, statements}
@@ -29,7 +31,7 @@ use Rattle.tables.specs.declared.Judgement.the-variants.{Fits, Broken}
 use Rattle.tables.proofs.Laid.{statements-fit, statements-broken}
 use Rattle.tables.specs.Parts.{Packs, mostCells, mostBytes, width, CellsOf, Small, Extents, Laying}
 use Rattle.tables.proofs.Cells.{cells-same, place-same}
-use Rattle.tables.proofs.Tests.{every-more, false-every, and-first, and-second, true-within}
+use Rattle.tables.proofs.Tests.{every-more, false-every, and-first, true-within}
 
 -- two bytes multiply to no more than two sizes may
 pub product-small : (a b : ℕ) → a < 256 → b < 256 → a * b ≤ mostCells
@@ -71,11 +73,6 @@ place-by-width size c (s ∷ (u ∷ [])) (a ∷ (b ∷ [])) h l e z = rw (width-
 place-by-width size c (s ∷ (u ∷ [])) (a ∷ (b ∷ (d ∷ ds))) h l e z = absurd (omega arith)
 place-by-width size c (s ∷ (u ∷ (v ∷ vs))) (a ∷ as′) h l e z = absurd (omega arith)
 
--- numbers below n are below what is no less than n
-pub each-below : (n m : ℕ) (l : List ℕ) → n ≤ m → Each (λ s. s < n) l → Each (λ s. s < m) l
-each-below n m [] h e = tt
-each-below n m (x ∷ xs) h e = (omega (arith, e .0), each-below n m xs h (e .1))
-
 -- offsets depend on the sizes of the sheet's sorts only
 pub offset-same : (sh : Sheet) → WellFormed sh → (size other : ℕ → ℕ) → ((s : ℕ) → s < length (sh .bounds) → size s ≡ other s) → (f : ℕ) → f ≤ length (sh .symbols) → offset sh size f ≡ offset sh other f
 offset-same sh w size other h f l =
@@ -85,8 +82,8 @@ offset-same sh w size other h f l =
 
 -- What a parsed sheet holds of the sheet that it packs.
 module _ (sh : Sheet) (p : Parsed) (k : Packs sh p) where
-  abbrev pub seen : Views sh (view p)
-  seen = subst (λ (q : Parsed). Views sh (view q)) (sym (k .same)) (packed-views sh)
+  pub packs-views : Views sh (view p)
+  packs-views = subst (λ (q : Parsed). Views sh (view q)) (sym (k .same)) (packed-views sh)
 
   pub symbols-packed : p .symbols ≡ length (sh .symbols)
   unfolding packed
@@ -102,7 +99,7 @@ module _ (sh : Sheet) (p : Parsed) (k : Packs sh p) where
   param1-packed f h = ap (λ (q : Parsed). at (q .param1) f) (k .same) ∙ packed-param1 sh f h
 
   pub params-below-8 : (f : ℕ) → f < length (sh .symbols) → Each (λ s. s < 8) (symbolAt sh f .params)
-  params-below-8 f h = each-below (length (sh .bounds)) 8 (symbolAt sh f .params) (k .formed .sorts .1) (k .formed .params f h)
+  params-below-8 f h = each-weaken (length (sh .bounds)) 8 (symbolAt sh f .params) (k .formed .sorts .1) (k .formed .params f h)
 
   pub cells-packed : (size : ℕ → ℕ) (f : ℕ) → f < length (sh .symbols) → width size (at (p .param0) f) * width size (at (p .param1) f) ≡ cells size (symbolAt sh f .params)
   cells-packed size f h =
@@ -125,11 +122,6 @@ pub record OffsetsTo (p : Parsed) (size : ℕ → ℕ) (f : ℕ) (offsets : List
 -- numbers stay small after a small one is stored
 set-small : (l : List ℕ) (i v b : ℕ) → ((j : ℕ) → at l j ≤ b) → v ≤ b → (j : ℕ) → at (set l i v) j ≤ b
 set-small l i v b h e j = elim (at-set l i v j) [ inl x ↦ rw x (h j) | inr x ↦ rw (x .1) e ]
-
-at-zeros : (n i : ℕ) → at (replicate n 0) i ≡ 0
-at-zeros zero i = refl
-at-zeros (suc n) zero = refl
-at-zeros (suc n) (suc i) = at-zeros n i
 
 pub offsets-none : (p : Parsed) (size : ℕ → ℕ) → p .sorts ≤ 8 → OffsetsTo p size 0 (set (replicate 65 0) 0 (p .sorts))
 unfolding packed
@@ -205,7 +197,7 @@ bounds-more p size s total b h lo hi =
     record {
       sum = rw (add-one s) (omega (arith, b .sum));
       within = λ sh k.
-          let v = seen sh p k in
+          let v = packs-views sh p k in
           let l : s < length (sh .bounds) = omega (arith, v .sorts) in
           every-more s (λ x. within (boundAt sh x .floor) (boundAt sh x .ceiling) (size x)) (b .within sh k)
           (true-within (boundAt sh s .floor) (boundAt sh s .ceiling) (size s) (omega (arith, v .floor s l), omega (arith, v .ceiling s l)));
@@ -214,7 +206,7 @@ bounds-more p size s total b h lo hi =
 pub bounds-floor : (sh : Sheet) (p : Parsed) (size : ℕ → ℕ) (s : ℕ) → Packs sh p → s < p .sorts → size s < at (p .floor) s → inBounds sh size ≡ false
 unfolding inBounds
 bounds-floor sh p size s k h lo =
-    let v = seen sh p k in
+    let v = packs-views sh p k in
     let l : s < length (sh .bounds) = omega (arith, v .sorts) in
     and-first _ _ (false-every _ (λ x. within (boundAt sh x .floor) (boundAt sh x .ceiling) (size x)) s l
     (and-first _ _ (lt-leb (boundAt sh s .floor) (size s) (omega (arith, v .floor s l)))))
@@ -222,15 +214,15 @@ bounds-floor sh p size s k h lo =
 pub bounds-ceiling : (sh : Sheet) (p : Parsed) (size : ℕ → ℕ) (s : ℕ) → Packs sh p → s < p .sorts → at (p .ceiling) s < size s → inBounds sh size ≡ false
 unfolding inBounds
 bounds-ceiling sh p size s k h hi =
-    let v = seen sh p k in
+    let v = packs-views sh p k in
     let l : s < length (sh .bounds) = omega (arith, v .sorts) in
     and-first _ _ (false-every _ (λ x. within (boundAt sh x .floor) (boundAt sh x .ceiling) (size x)) s l
-    (and-second (leb (boundAt sh s .floor) (size s)) _ (lt-leb (size s) (boundAt sh s .ceiling) (omega (arith, v .ceiling s l)))))
+    (and-no (leb (boundAt sh s .floor) (size s)) _ (lt-leb (size s) (boundAt sh s .ceiling) (omega (arith, v .ceiling s l)))))
 
 pub bounds-all : (p : Parsed) (size : ℕ → ℕ) (total : ℕ) → BoundsTo p size (p .sorts) total → (sh : Sheet) → Packs sh p → leb total (p .total) ≡ inBounds sh size
 unfolding inBounds
 bounds-all p size total b sh k =
-    let v = seen sh p k in
+    let v = packs-views sh p k in
     let all = rw (v .sorts) at (b .within sh k) in
     let sum : total ≡ sumTo (length (sh .bounds)) size = rw (v .sorts) at (b .sum) in
     rw all (ap₂ leb sum (v .total))
@@ -248,7 +240,7 @@ code-now : (p : Parsed) (sizes offsets t : List ℕ) (i : ℕ) (codes : List ℕ
 code-now p sizes offsets t i codes v c h l e sh y =
     let k = y .packs in
     let w = k .formed in
-    let s = seen sh p k in
+    let s = packs-views sh p k in
     let b : i < length (sh .terms) = omega (arith, s .terms) in
     let f = termAt sh i .symbol in
     let g = w .symbol i b in
@@ -282,7 +274,7 @@ HoldTo p c k = (sh : Sheet) → Packs sh p → (j : ℕ) → j < k → holds c (
 
 pub codes-all : (p : Parsed) (sizes offsets t codes : List ℕ) → CodesTo p sizes offsets t (p .terms) codes → (sh : Sheet) → Laying sh p sizes offsets t → (i : ℕ) → at codes i ≡ code (decoded sh t) sh i
 codes-all p sizes offsets t codes c sh y i =
-    let s = seen sh p (y .packs) in
+    let s = packs-views sh p (y .packs) in
     elim (decLt i (p .terms)) [
       | yes b ↦ c .code sh y i b
       | no b ↦ c .none i (omega arith) ∙ sym (code-past (decoded sh t) sh i (omega (arith, s .terms)))
@@ -295,12 +287,12 @@ bit-is-1 false = refl
 -- the arrays' test of a statement is that of the statement
 pub statement-test : (sh : Sheet) (p : Parsed) (c : ℕ → ℕ) (k : ℕ) → Packs sh p → k < length (sh .literals) → agree (eqb (at (p .equal) k) 1) (eqb (c (at (p .left) k)) (c (at (p .right) k))) ≡ holds c (literalAt sh k)
 statement-test sh p c k q h =
-    let s = seen sh p q in
+    let s = packs-views sh p q in
     rw (s .equal k h, s .left k h, s .right k h, bit-is-1 (literalAt sh k .equal)) refl
 
 pub hold-more : (p : Parsed) (c : ℕ → ℕ) (k : ℕ) → HoldTo p c k → k < p .literals → agree (eqb (at (p .equal) k) 1) (eqb (c (at (p .left) k)) (c (at (p .right) k))) ≡ true → HoldTo p c (k + 1)
 hold-more p c k h l e sh q j b =
-    let s = seen sh p q in
+    let s = packs-views sh p q in
     elim (decLt j k) [
       | yes x ↦ h sh q j x
       | no x ↦ let z : k ≡ j = omega arith in subst (λ (i : ℕ). holds c (literalAt sh i) ≡ true) z (sym (statement-test sh p c k q (omega (arith, s .literals))) ∙ e)
@@ -308,12 +300,12 @@ hold-more p c k h l e sh q j b =
 
 pub hold-broken : (p : Parsed) (c : ℕ → ℕ) (k : ℕ) → HoldTo p c k → k < p .literals → agree (eqb (at (p .equal) k) 1) (eqb (c (at (p .left) k)) (c (at (p .right) k))) ≡ false → (sh : Sheet) → Packs sh p → Broken k ≡ statements c 0 (sh .literals)
 hold-broken p c k h l e sh q =
-    let s = seen sh p q in
+    let s = packs-views sh p q in
     let b : k < length (sh .literals) = omega (arith, s .literals) in
     let z : 0 + k ≡ k = omega arith in
     sym (statements-broken c _ 0 (sh .literals) k b (h sh q) (sym (statement-test sh p c k q b) ∙ e) ∙ ap Broken z)
 
 pub hold-all : (p : Parsed) (c : ℕ → ℕ) → HoldTo p c (p .literals) → (sh : Sheet) → Packs sh p → Fits ≡ statements c 0 (sh .literals)
 hold-all p c h sh q =
-    let s = seen sh p q in
+    let s = packs-views sh p q in
     sym (statements-fit c _ 0 (sh .literals) (λ j b. h sh q j (omega (arith, s .literals))))

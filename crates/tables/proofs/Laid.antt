@@ -12,22 +12,23 @@ use borrow.Author.Tests.{leb-true, le-leb, ltb-true, lt-ltb, eqb-true, eq-eqb}
 use Rattle.logic.specs.Sheet.{Sheet, Literal, boundAt, symbolAt}
 use Rattle.logic.specs.Structure.{Interprets, at, sumTo, Bounded}
 use Rattle.sheet.specs.Layout.{within}
+use Rattle.sheet.proofs.Bools.{and-both}
 use Rattle.tables.specs.declared.Judgement.the-variants.{Fits, Broken}
 use Rattle.tables.specs.Layout.{place, extent, decoded, WellLaid}
 use Rattle.tables.specs.Tests.{every, sizesRight, entriesRight, wellLaid, inBounds, holds, statements}
 use Rattle.tables.proofs.Cells.{place-below}
-use Rattle.tables.proofs.Tests.{decided, both, and-both, every-true, true-every, within-true, true-within}
+use Rattle.tables.proofs.Tests.{decided, both-true, every-true, true-every, within-true, true-within}
 
 module _ (sh : Sheet) (t : List ℕ) where
   -- the test of cause 12 is true exactly when the tables are well laid
   pub well-laid-test : (wellLaid sh t ≡ true) ↔ WellLaid sh t
   unfolding wellLaid
-  well-laid-test = (λ e. there (both _ _ e), λ w. and-both _ _ (and-both _ _ (back w) (eq-eqb _ _ (w .extent))) (entries w))
+  well-laid-test = (λ e. there (and-both _ _ e), λ w. both-true _ _ (both-true _ _ (back w) (eq-eqb _ _ (w .extent))) (entries w))
     where
       there : (sizesRight sh t && eqb (length t) (extent sh (at t)) ≡ true) × (every (length (sh .symbols)) (entriesRight sh t) ≡ true) → WellLaid sh t
       there e =
-          let a = both (sizesRight sh t) (eqb (length t) (extent sh (at t))) (e .0) in
-          let b = both (leb (length (sh .bounds)) (length t)) (every (length (sh .bounds)) (λ s. within 1 16 (at t s))) (a .0) in
+          let a = and-both (sizesRight sh t) (eqb (length t) (extent sh (at t))) (e .0) in
+          let b = and-both (leb (length (sh .bounds)) (length t)) (every (length (sh .bounds)) (λ s. within 1 16 (at t s))) (a .0) in
           record {
             sizes = leb-true _ _ (b .0);
             size = λ s h. within-true 1 16 (at t s) (every-true _ _ (b .1) s h);
@@ -36,14 +37,14 @@ module _ (sh : Sheet) (t : List ℕ) where
           }
 
       back : WellLaid sh t → sizesRight sh t ≡ true
-      back w = and-both _ _ (le-leb _ _ (w .sizes)) (true-every _ _ (λ s h. true-within 1 16 (at t s) (w .size s h)))
+      back w = both-true _ _ (le-leb _ _ (w .sizes)) (true-every _ _ (λ s h. true-within 1 16 (at t s) (w .size s h)))
 
       entries : WellLaid sh t → every (length (sh .symbols)) (entriesRight sh t) ≡ true
       entries w = true-every _ (entriesRight sh t) (λ f h. true-every _ _ (λ k l. lt-ltb _ _ (w .entry f h k l)))
 
   pub in-bounds-test : (size : ℕ → ℕ) → (inBounds sh size ≡ true) ↔ Bounded sh size
   unfolding inBounds
-  in-bounds-test size = (λ e. there (both _ _ e), λ b. and-both _ _ (true-every _ _ (λ s h. true-within _ _ _ (b .floor s h, b .ceiling s h))) (le-leb _ _ (b .total)))
+  in-bounds-test size = (λ e. there (and-both _ _ e), λ b. both-true _ _ (true-every _ _ (λ s h. true-within _ _ _ (b .floor s h, b .ceiling s h))) (le-leb _ _ (b .total)))
     where
       there : (every (length (sh .bounds)) (λ s. within (boundAt sh s .floor) (boundAt sh s .ceiling) (size s)) ≡ true) × (leb (sumTo (length (sh .bounds)) size) (sh .total) ≡ true) → Bounded sh size
       there e =
@@ -60,7 +61,7 @@ first-failing (suc n) p =
     elim (first-failing n p) [
       | inl all ↦
           elim (decided (p n)) [
-            | inl e ↦ inl (λ i h. every-true (suc n) p (and-both (every n p) (p n) (true-every n p all) e) i h)
+            | inl e ↦ inl (λ i h. every-true (suc n) p (both-true (every n p) (p n) (true-every n p all) e) i h)
             | inr e ↦ inr (n, omega arith, all, e)
           ]
       | inr f ↦ inr (f .0, omega (arith, f .1), f .2, f .3)

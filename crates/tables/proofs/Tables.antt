@@ -4,9 +4,9 @@ use native.Mathlib.Nat.{not-suc-le-zero, le-of-suc-le-suc, suc-mul, mul-zero, di
 use native.Mathlib.Decide.{decLt}
 use native.Mathlib.Omega.{arith}
 use mathlib.Core.Path.{_≡_, refl, ap, ap₂, sym, _∙_}
-use mathlib.Core.List.{List, [], _∷_, _++_, map}
-use lib.ListN.{length, getD, length-append, length-map, List·getD-append}
-use lib.Seq.{getD-append-add, ext-getD}
+use mathlib.Core.List.{List, [], _∷_, _++_, map, append-assoc}
+use lib.ListN.{length, getD, take, length-append, length-map, List·getD-append}
+use lib.Seq.{getD-append-add, take-append-add, take-at, take-all, ext-getD}
 use Rattle.logic.specs.Sheet.{Sheet, Symbol, boundAt, symbolAt, termAt}
 use Rattle.logic.specs.Structure.{Structure, InSorts, Interprets, at, code, sumTo, Satisfies, Bounded}
 use Rattle.logic.specs.Order.{firsts}
@@ -141,6 +141,28 @@ module _ (M : Structure) (d : Symbol) where
       ∙ tablesFrom-at (suc f) gs j k (le-of-suc-le-suc h) l
       ∙ ap (λ (x : ℕ). at (tableBytes M x (getD gs j d .params)) k) z
 
+  -- the tables of the first j + 1 symbols are those of the first j, and one more
+  pub tablesFrom-more : (f : ℕ) (gs : List Symbol) (j m : ℕ) → j < length gs → m ≡ f + j → take (sumTo (suc j) (sizesFrom gs)) (tablesFrom M f gs) ≡ take (sumTo j (sizesFrom gs)) (tablesFrom M f gs) ++ tableBytes M m (getD gs j d .params)
+  tablesFrom-more f [] j m h e = absurd (not-suc-le-zero h)
+  tablesFrom-more f (g ∷ gs) zero m h e =
+      let same : m ≡ f = omega arith in
+      take-at (tableBytes M f (g .params)) (tablesFrom M (suc f) gs) (sumTo 1 (sizesFrom (g ∷ gs))) (omega (arith, length-table M f (g .params)))
+      ∙ ap (λ (x : ℕ). tableBytes M x (g .params)) (sym same)
+  tablesFrom-more f (g ∷ gs) (suc j) m h e =
+      let front : List ℕ = tableBytes M f (g .params) in
+      let after : (i : ℕ) → take (sumTo (suc i) (sizesFrom (g ∷ gs))) (tablesFrom M f (g ∷ gs)) ≡ front ++ take (sumTo i (sizesFrom gs)) (tablesFrom M (suc f) gs) =
+      λ i.
+      let behind : sumTo (suc i) (sizesFrom (g ∷ gs)) ≡ length front + sumTo i (sizesFrom gs) = omega (arith, length-table M f (g .params), sumTo-front i (sizesFrom (g ∷ gs))) in
+      ap (λ (n : ℕ). take n (front ++ tablesFrom M (suc f) gs)) behind ∙ take-append-add front (tablesFrom M (suc f) gs) (sumTo i (sizesFrom gs)) in
+      after (suc j)
+      ∙ ap (λ (l : List ℕ). front ++ l) (tablesFrom-more (suc f) gs j m (omega arith) (omega arith))
+      ∙ sym (append-assoc front (take (sumTo j (sizesFrom gs)) (tablesFrom M (suc f) gs)) (tableBytes M m (getD gs j d .params)))
+      ∙ ap (λ (l : List ℕ). l ++ tableBytes M m (getD gs j d .params)) (sym (after j))
+
+-- equal sizes give tables of one length
+pub extent-same : (sh : Sheet) → WellFormed sh → (size other : ℕ → ℕ) → ((s : ℕ) → s < length (sh .bounds) → size s ≡ other s) → extent sh size ≡ extent sh other
+extent-same sh w size other h = offset-same sh w size other h (length (sh .symbols)) (omega arith)
+
 -- larger sizes give no shorter tables; those of a candidate are no longer than at the ceilings
 pub offset-monotone : (sh : Sheet) → WellFormed sh → (size other : ℕ → ℕ) → ((s : ℕ) → s < length (sh .bounds) → size s ≤ other s) → (f : ℕ) → f ≤ length (sh .symbols) → offset sh size f ≤ offset sh other f
 offset-monotone sh w size other h f l =
@@ -190,6 +212,28 @@ module _ (M : Structure) (sh : Sheet) (w : WellFormed sh) where
       ∙ getD-append-add front (tablesFrom M 0 (sh .symbols)) (sumTo f (λ g. cells (M .size) (symbolAt sh g .params)) + k) 0
       ∙ tablesFrom-at M symbol₀ 0 (sh .symbols) f k h l
       ∙ ap (λ (x : ℕ). at (tableBytes M x (symbolAt sh f .params)) k) z
+
+  -- The bytes one stretch after the other: the sizes, then the table of each symbol at its offset, up to the extent.
+  taken : (k : ℕ) → take (length (sh .bounds) + k) (encoded M sh) ≡ firsts (length (sh .bounds)) (M .size) ++ take k (tablesFrom M 0 (sh .symbols))
+  taken k =
+      ap (λ (i : ℕ). take (i + k) (encoded M sh)) (sym (length-firsts (length (sh .bounds)) (M .size)))
+      ∙ take-append-add (firsts (length (sh .bounds)) (M .size)) (tablesFrom M 0 (sh .symbols)) k
+
+  pub encoded-sizes : take (length (sh .bounds)) (encoded M sh) ≡ firsts (length (sh .bounds)) (M .size)
+  encoded-sizes = take-at (firsts (length (sh .bounds)) (M .size)) (tablesFrom M 0 (sh .symbols)) (length (sh .bounds)) (length-firsts (length (sh .bounds)) (M .size))
+
+  pub encoded-more : (f : ℕ) → f < length (sh .symbols) → take (offset sh (M .size) (suc f)) (encoded M sh) ≡ take (offset sh (M .size) f) (encoded M sh) ++ tableBytes M f (symbolAt sh f .params)
+  unfolding symbol₀
+  encoded-more f h =
+      let sizes : List ℕ = firsts (length (sh .bounds)) (M .size) in
+      let many : ℕ → ℕ = λ k. sumTo k (λ g. cells (M .size) (symbolAt sh g .params)) in
+      taken (many (suc f))
+      ∙ ap (λ (l : List ℕ). sizes ++ l) (tablesFrom-more M symbol₀ 0 (sh .symbols) f f h (omega arith))
+      ∙ sym (append-assoc sizes (take (many f) (tablesFrom M 0 (sh .symbols))) (tableBytes M f (symbolAt sh f .params)))
+      ∙ ap (λ (l : List ℕ). l ++ tableBytes M f (symbolAt sh f .params)) (sym (taken (many f)))
+
+  pub encoded-whole : take (extent sh (M .size)) (encoded M sh) ≡ encoded M sh
+  encoded-whole = take-all (extent sh (M .size)) (encoded M sh) (omega (arith, length-encoded))
 
   -- decoding gives back every cell
   pub decoded-cell : (f : ℕ) → f < length (sh .symbols) → (cs : List ℕ) → InSorts (M .size) (symbolAt sh f .params) cs → decoded sh (encoded M sh) .table f cs ≡ M .table f cs

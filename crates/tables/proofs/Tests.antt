@@ -13,6 +13,7 @@ use Rattle.logic.specs.Sheet.{Literal}
 use Rattle.logic.specs.Structure.{Agree, Holds}
 use Rattle.logic.specs.WellFormed.{Within}
 use Rattle.sheet.specs.Layout.{within}
+use Rattle.sheet.proofs.Bools.{and-both, and-no}
 use Rattle.tables.specs.Tests.{every, agree, holds}
 
 -- a test is true or false
@@ -23,24 +24,16 @@ decided false = inr refl
 pub true-not-false : (b : Bool) → b ≡ true → b ≡ false → ⊥
 true-not-false b e f = true≢false (sym e ∙ f)
 
-pub both : (a b : Bool) → a && b ≡ true → (a ≡ true) × (b ≡ true)
-both true b e = (refl, e)
-both false b e = absurd (true-not-false false e refl)
-
-pub and-both : (a b : Bool) → a ≡ true → b ≡ true → a && b ≡ true
-and-both a b e f = cc
+pub both-true : (a b : Bool) → a ≡ true → b ≡ true → a && b ≡ true
+both-true a b e f = cc
 
 pub and-first : (a b : Bool) → a ≡ false → a && b ≡ false
 and-first a b e = rw e
 
-pub and-second : (a b : Bool) → b ≡ false → a && b ≡ false
-and-second true b e = e
-and-second false b e = refl
-
 pub every-true : (n : ℕ) (p : ℕ → Bool) → every n p ≡ true → (i : ℕ) → i < n → p i ≡ true
 every-true zero p e i h = absurd (not-suc-le-zero h)
 every-true (suc n) p e i h =
-    let b = both (every n p) (p n) e in
+    let b = and-both (every n p) (p n) e in
     elim (decLt i n) [
       | yes l ↦ every-true n p (b .0) i l
       | no nl ↦ let q : n ≡ i = omega arith in subst (λ (x : ℕ). p x ≡ true) q (b .1)
@@ -48,19 +41,19 @@ every-true (suc n) p e i h =
 
 pub true-every : (n : ℕ) (p : ℕ → Bool) → ((i : ℕ) → i < n → p i ≡ true) → every n p ≡ true
 true-every zero p h = refl
-true-every (suc n) p h = and-both (every n p) (p n) (true-every n p (λ i l. h i (omega arith))) (h n (omega arith))
+true-every (suc n) p h = both-true (every n p) (p n) (true-every n p (λ i l. h i (omega arith))) (h n (omega arith))
 
 pub false-every : (n : ℕ) (p : ℕ → Bool) (i : ℕ) → i < n → p i ≡ false → every n p ≡ false
 false-every zero p i h e = absurd (not-suc-le-zero h)
 false-every (suc n) p i h e =
     elim (decLt i n) [
       | yes l ↦ and-first (every n p) (p n) (false-every n p i l e)
-      | no nl ↦ let q : i ≡ n = omega arith in and-second (every n p) (p n) (subst (λ (x : ℕ). p x ≡ false) q e)
+      | no nl ↦ let q : i ≡ n = omega arith in and-no (every n p) (p n) (subst (λ (x : ℕ). p x ≡ false) q e)
     ]
 
 -- one number more, as a loop counts
 pub every-more : (n : ℕ) (p : ℕ → Bool) → every n p ≡ true → p n ≡ true → every (n + 1) p ≡ true
-every-more n p e f = rw (add-one n) (and-both (every n p) (p n) e f)
+every-more n p e f = rw (add-one n) (both-true (every n p) (p n) e f)
 
 -- two tests that agree below n
 pub every-same : (n : ℕ) (p q : ℕ → Bool) → ((i : ℕ) → i < n → p i ≡ q i) → every n p ≡ every n q
@@ -68,10 +61,10 @@ every-same zero p q h = refl
 every-same (suc n) p q h = cc (every-same n p q (λ i l. h i (omega arith)), h n (omega arith))
 
 pub within-true : (lo hi n : ℕ) → within lo hi n ≡ true → Within lo hi n
-within-true lo hi n e = let b = both (leb lo n) (leb n hi) e in (leb-true lo n (b .0), leb-true n hi (b .1))
+within-true lo hi n e = let b = and-both (leb lo n) (leb n hi) e in (leb-true lo n (b .0), leb-true n hi (b .1))
 
 pub true-within : (lo hi n : ℕ) → Within lo hi n → within lo hi n ≡ true
-true-within lo hi n h = and-both (leb lo n) (leb n hi) (le-leb lo n (h .0)) (le-leb n hi (h .1))
+true-within lo hi n h = both-true (leb lo n) (leb n hi) (le-leb lo n (h .0)) (le-leb n hi (h .1))
 
 agree-true : (b : Bool) (x y : ℕ) → agree b (eqb x y) ≡ true → Agree b x y
 agree-true true x y e = eqb-true x y e

@@ -12,16 +12,17 @@ use Rattle.logic.specs.Structure.{at}
 use Rattle.logic.proofs.Meaning.{sumTo-same}
 use Rattle.sheet.specs.Layout.{within}
 use Rattle.sheet.specs.declared.Parsed.{Parsed}
+use Rattle.sheet.proofs.Bools.{and-no}
 use Rattle.tables.specs.Layout.{offset, extent}
 use Rattle.tables.specs.Tests.{every, sizesRight, entriesRight, wellLaid, inBounds}
 use Rattle.tables.specs.Parts.{Packs, Limited, Extents, Laying}
-use Rattle.tables.proofs.Arrays.{seen, symbols-packed, offset-same}
-use Rattle.tables.proofs.Tests.{every-same, and-first, and-second}
+use Rattle.tables.proofs.Arrays.{packs-views, symbols-packed, offset-same}
+use Rattle.tables.proofs.Tests.{every-same, and-first}
 
 -- the counts of a parsed accepted sheet are within the limits
 pub packs-limited : (sh : Sheet) (p : Parsed) → Packs sh p → Limited p
 packs-limited sh p k =
-    let s = seen sh p k in
+    let s = packs-views sh p k in
     let w = k .formed in
     record {
       sorts = omega (arith, s .sorts, w .sorts .1);
@@ -32,7 +33,7 @@ packs-limited sh p k =
 
 -- sizes that were copied from the tables, by the sheet's count of sorts
 pub copied-sizes : (sh : Sheet) (p : Parsed) (sizes t : List ℕ) → Packs sh p → ((s : ℕ) → s < p .sorts → at sizes s ≡ at t s) → (s : ℕ) → s < length (sh .bounds) → at t s ≡ at sizes s
-copied-sizes sh p sizes t k c s h = sym (c s (omega (arith, seen sh p k .sorts)))
+copied-sizes sh p sizes t k c s h = sym (c s (omega (arith, packs-views sh p k .sorts)))
 
 -- with the offsets at those sizes they are those of the tables
 pub laying : (sh : Sheet) (p : Parsed) (sizes offsets t : List ℕ) → Packs sh p → ((s : ℕ) → s < p .sorts → at sizes s ≡ at t s) → Extents p (at sizes) offsets → Laying sh p sizes offsets t
@@ -49,7 +50,7 @@ module _ (sh : Sheet) (p : Parsed) (t : List ℕ) where
   sizesTest = leb (p .sorts) (length t) && every (p .sorts) (λ s. within 1 16 (at t s))
 
   pub sizes-test : Packs sh p → sizesTest ≡ sizesRight sh t
-  sizes-test k = rw (seen sh p k .sorts) refl
+  sizes-test k = rw (packs-views sh p k .sorts) refl
 
   pub sizes-wrong : Packs sh p → sizesTest ≡ false → false ≡ wellLaid sh t
   unfolding wellLaid
@@ -61,7 +62,7 @@ module _ (sh : Sheet) (p : Parsed) (t : List ℕ) where
 
     pub length-wrong : Laying sh p sizes offsets t → (length t ≡ at offsets (p .symbols) → ⊥) → false ≡ wellLaid sh t
     unfolding wellLaid
-    length-wrong y h = sym (and-first _ _ (and-second (sizesRight sh t) _ (ne-eqb (length t) (extent sh (at t)) (λ e. h (e ∙ sym (end-offset y))))))
+    length-wrong y h = sym (and-first _ _ (and-no (sizesRight sh t) _ (ne-eqb (length t) (extent sh (at t)) (λ e. h (e ∙ sym (end-offset y))))))
 
     pub entries-decide : Laying sh p sizes offsets t → sizesTest ≡ true → length t ≡ at offsets (p .symbols) → every (length (sh .symbols)) (entriesRight sh t) ≡ wellLaid sh t
     unfolding wellLaid

@@ -1,5 +1,6 @@
 // The layout of tables: lengths, offsets and cells; the tests of judge, and one table written.
 use sheet::Parsed;
+use sheet::wide;
 ghost use Prim.Native.Nat.{ℕ, _+_, _*_, _≤_, _<_};
 ghost use mathlib.Core.Path.{_≡_};
 ghost use mathlib.Core.Bool.{_&&_};
@@ -22,12 +23,6 @@ pub enum Judgement {
     // the number of the first statement that is not satisfied
     Broken(usize),
     Refused { number: u8, place: usize },
-}
-
-fn wide(x: u8) -> usize
-    ensures { λ r. ⌜ (r ≡ x) × (r < 256) ⌝ }
-{
-    x as usize
 }
 
 // The byte at a place, 0 past the end.

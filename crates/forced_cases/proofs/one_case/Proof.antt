@@ -50,14 +50,11 @@ part-ask-pairs-end c = search needs
 ask-pairs-requires : tie.Need-ask-pairs-requires
 ask-pairs-requires c κs = search needs
 
-add-result : tie.Need-add-result
-add-result c = search needs
+behind-requires : tie.Need-behind-requires
+behind-requires c κs = search needs
 
 returns-2 : tie.Need-returns-2
 returns-2 c = search needs
-
-returns-3 : tie.Need-returns-3
-returns-3 c = search needs
 
 pub one-case-spec : {M : Type 1} → statement M
 one-case-spec =
@@ -78,6 +75,5 @@ one-case-spec =
     part-ask-pairs-start
     part-ask-pairs-end
     ask-pairs-requires
-    add-result
-    returns-2
-    returns-3)
+    behind-requires
+    returns-2)

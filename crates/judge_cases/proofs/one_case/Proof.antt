@@ -8,123 +8,93 @@ use borrow.Author.Needs.{needs}
 use Rattle.judge_cases.proofs.one_case.Statement.{statement}
 use Rattle.judge_cases.proofs.one_case.Tie as tie
 
--- src/main.rt:66:9
 line-end-requires : tie.Need-line-end-requires
 line-end-requires c κs = search needs
 
--- src/main.rt:67:26
 slice-aggregate-unhex : tie.Need-slice-aggregate-unhex
 slice-aggregate-unhex c = search needs
 
--- src/main.rt:67:38
 sub-unhex : tie.Need-sub-unhex
 sub-unhex c = search needs
 
--- src/main.rt:67:38
 part-unhex-start : tie.Need-part-unhex-start
 part-unhex-start c = search needs
 
--- src/main.rt:67:38
 part-unhex-end : tie.Need-part-unhex-end
 part-unhex-end c = search needs
 
--- src/main.rt:67:9
 unhex-requires : tie.Need-unhex-requires
 unhex-requires c κs = search needs
 
--- src/main.rt:68:9
 behind-requires : tie.Need-behind-requires
 behind-requires c κs = search needs
 
--- src/main.rt:69:9
 line-end-requires-2 : tie.Need-line-end-requires-2
 line-end-requires-2 c κs = search needs
 
--- src/main.rt:70:26
 slice-aggregate-unhex-2 : tie.Need-slice-aggregate-unhex-2
 slice-aggregate-unhex-2 c = search needs
 
--- src/main.rt:70:39
 sub-unhex-2 : tie.Need-sub-unhex-2
 sub-unhex-2 c = search needs
 
--- src/main.rt:70:39
 part-unhex-start-2 : tie.Need-part-unhex-start-2
 part-unhex-start-2 c = search needs
 
--- src/main.rt:70:39
 part-unhex-end-2 : tie.Need-part-unhex-end-2
 part-unhex-end-2 c = search needs
 
--- src/main.rt:70:9
 unhex-requires-2 : tie.Need-unhex-requires-2
 unhex-requires-2 c κs = search needs
 
--- src/main.rt:71:9
 behind-requires-2 : tie.Need-behind-requires-2
 behind-requires-2 c κs = search needs
 
--- src/main.rt:72:9
 line-end-requires-3 : tie.Need-line-end-requires-3
 line-end-requires-3 c κs = search needs
 
--- src/main.rt:73:11
 array-share-prefix-sheet : tie.Need-array-share-prefix-sheet
 array-share-prefix-sheet c = search needs
 
--- src/main.rt:73:11
 slice-aggregate-reply : tie.Need-slice-aggregate-reply
 slice-aggregate-reply c = sym (length-take-le _ _ (c .before .before .before .before .before .before .before .before .before .before .unhex .ensures))
 
--- src/main.rt:73:24
 array-share-prefix-tables : tie.Need-array-share-prefix-tables
 array-share-prefix-tables c = search needs
 
--- src/main.rt:73:24
 slice-aggregate-reply-2 : tie.Need-slice-aggregate-reply-2
 slice-aggregate-reply-2 c = sym (length-take-le _ _ (c .before .before .before .before .before .unhex2 .ensures))
 
--- src/main.rt:73:5
 reply-requires : tie.Need-reply-requires
 reply-requires c κs = search needs
 
--- src/main.rt:74:18
 array-share-prefix-sheet-2 : tie.Need-array-share-prefix-sheet-2
 array-share-prefix-sheet-2 c = search needs
 
--- src/main.rt:74:18
 slice-aggregate-print-tables : tie.Need-slice-aggregate-print-tables
 slice-aggregate-print-tables c = sym (length-take-le _ _ (c .before .before .before .before .before .before .before .before .before .before .before .before .before .unhex .ensures))
 
--- src/main.rt:74:31
 array-share-prefix-tables-2 : tie.Need-array-share-prefix-tables-2
 array-share-prefix-tables-2 c = search needs
 
--- src/main.rt:74:31
 slice-aggregate-print-tables-2 : tie.Need-slice-aggregate-print-tables-2
 slice-aggregate-print-tables-2 c = sym (length-take-le _ _ (c .before .before .before .before .before .before .before .before .unhex2 .ensures))
 
--- src/main.rt:74:45
 sub-print-tables : tie.Need-sub-print-tables
 sub-print-tables c = search needs
 
--- src/main.rt:74:45
 part-print-tables-start : tie.Need-part-print-tables-start
 part-print-tables-start c = search needs
 
--- src/main.rt:74:45
 part-print-tables-end : tie.Need-part-print-tables-end
 part-print-tables-end c = search needs
 
--- src/main.rt:74:5
 print-tables-requires : tie.Need-print-tables-requires
 print-tables-requires c κs = search needs
 
--- src/main.rt:75:5
 behind-requires-3 : tie.Need-behind-requires-3
 behind-requires-3 c κs = search needs
 
--- src/main.rt:60:1
 returns : tie.Need-returns
 returns c =
     let first = c .before .before .before .before .before .before .before .before .before .before .before .before .before .before .before .before .before .before .before .before .line-end .ensures in

@@ -12,31 +12,24 @@ Inv-loop sheet tables line i₀ i = i ≤ length line
 abbrev μ-loop : tie.MeasureT-loop
 μ-loop sheet tables line i₀ i = length line - i
 
--- src/main.rt:48:5
 loop-holds : tie.Need-loop-holds Inv-loop μ-loop
 loop-holds c = search needs
 
--- src/main.rt:49:13
 numeral-at-requires : tie.Need-numeral-at-requires Inv-loop μ-loop
 numeral-at-requires c κs = search needs
 
--- src/main.rt:50:33
 table-of-requires : tie.Need-table-of-requires Inv-loop μ-loop
 table-of-requires c κs = search needs
 
--- src/main.rt:50:9
 print-table-requires : tie.Need-print-table-requires Inv-loop μ-loop
 print-table-requires c κs = search needs
 
--- src/main.rt:48:5
 loop-less : tie.Need-loop-less Inv-loop μ-loop
 loop-less c = omega (arith, c .before .before .numeral-at .ensures .2 (omega arith))
 
--- src/main.rt:48:5
 loop-again : tie.Need-loop-again Inv-loop μ-loop
 loop-again c = search needs
 
--- src/main.rt:46:1
 returns : tie.Need-returns Inv-loop μ-loop
 returns c = search needs
 

@@ -1,15 +1,22 @@
--- The invariant: the lines so far end within the text.
-use Prim.Native.Nat.{_+_, _≤_, _-_}
+-- `read_cases::answer_all` is safe and ends: each line takes at least one byte of the text.
+use Prim.Native.Nat.{ℕ, _≤_, _<_, _-_}
+use native.Mathlib.Decide.{decLt}
+use native.Mathlib.Omega.{arith}
 use lib.ListN.{length}
 use borrow.Author.Needs.{needs}
 use Rattle.read_cases.proofs.answer_all.Statement.{statement}
 use Rattle.read_cases.proofs.answer_all.Tie as tie
 
+-- behind a line that starts within the text, less of the text is left
+less-left : (from end next n : ℕ) → from < n → (from ≤ end) × (end ≤ n) → (end ≤ next) × (next ≤ n) × (end < n → end < next) → n - next < n - from
+less-left from end next n h e b =
+    elim (decLt end n) [ yes l ↦ omega (arith, e .0, b .1, b .2 l) | no l ↦ omega (arith, b .0, b .1) ]
+
 abbrev Inv-loop : tie.InvT-loop
-Inv-loop text from₀ from = from ≤ length text + 1
+Inv-loop text from₀ from = from ≤ length text
 
 abbrev μ-loop : tie.MeasureT-loop
-μ-loop text from₀ from = length text + 1 - from
+μ-loop text from₀ from = length text - from
 
 loop-holds : tie.Need-loop-holds Inv-loop μ-loop
 loop-holds c = search needs
@@ -20,11 +27,12 @@ line-end-requires c κs = search needs
 answer-line-requires : tie.Need-answer-line-requires Inv-loop μ-loop
 answer-line-requires c κs = search needs
 
-add-from : tie.Need-add-from Inv-loop μ-loop
-add-from c = search needs
+behind-requires : tie.Need-behind-requires Inv-loop μ-loop
+behind-requires c κs = search needs
 
 loop-less : tie.Need-loop-less Inv-loop μ-loop
-loop-less c = search needs
+loop-less c =
+    less-left _ _ _ _ (c .before .before .before .loop-test .taken) (c .before .before .line-end .ensures) (c .behind .ensures)
 
 loop-again : tie.Need-loop-again Inv-loop μ-loop
 loop-again c = search needs
@@ -41,7 +49,7 @@ answer-all-spec =
     loop-holds
     line-end-requires
     answer-line-requires
-    add-from
+    behind-requires
     loop-less
     loop-again
     returns)

@@ -7,9 +7,10 @@ use lib.ListN.{length}
 use lib.Dec.{leb}
 use Rattle.logic.specs.Structure.{at}
 use Rattle.sheet.specs.Layout.{within}
+use Rattle.sheet.proofs.Bools.{and-no}
 use Rattle.tables.specs.Tests.{every}
 use borrow.Author.Tests.{lt-leb, le-leb}
-use Rattle.tables.proofs.Tests.{and-both, and-first, and-second, false-every, every-more, true-within}
+use Rattle.tables.proofs.Tests.{both-true, and-first, false-every, every-more, true-within}
 use borrow.Author.Needs.{needs}
 use Rattle.tables.proofs.sizes_right.Statement.{statement}
 use Rattle.tables.proofs.sizes_right.Tie as tie
@@ -33,7 +34,7 @@ returns-2 : tie.Need-returns-2 Inv-loop μ-loop
 returns-2 c =
     let s = c .before .before .before .before .before .args in
     let l = c .before .before .before .loop in
-    sym (and-second (leb (s .n) (length (s .t .now))) _ (false-every (s .n) _ (l .s) (omega arith) (and-first _ _ (lt-leb 1 (at (s .t .now) (l .s)) (omega arith)))))
+    sym (and-no (leb (s .n) (length (s .t .now))) _ (false-every (s .n) _ (l .s) (omega arith) (and-first _ _ (lt-leb 1 (at (s .t .now) (l .s)) (omega arith)))))
 
 shared-slice-read-if3 : tie.Need-shared-slice-read-if3 Inv-loop μ-loop
 shared-slice-read-if3 c = search needs
@@ -42,7 +43,7 @@ returns-3 : tie.Need-returns-3 Inv-loop μ-loop
 returns-3 c =
     let s = c .before .before .before .before .before .before .before .args in
     let l = c .before .before .before .before .before .loop in
-    sym (and-second (leb (s .n) (length (s .t .now))) _ (false-every (s .n) _ (l .s) (omega arith) (and-second (leb 1 (at (s .t .now) (l .s))) _ (lt-leb (at (s .t .now) (l .s)) 16 (omega arith)))))
+    sym (and-no (leb (s .n) (length (s .t .now))) _ (false-every (s .n) _ (l .s) (omega arith) (and-no (leb 1 (at (s .t .now) (l .s))) _ (lt-leb (at (s .t .now) (l .s)) 16 (omega arith)))))
 
 add-s : tie.Need-add-s Inv-loop μ-loop
 add-s c = search needs
@@ -62,7 +63,7 @@ returns-4 c =
     let s = c .before .before .before .args in
     let l = c .before .loop in
     let e : l .s ≡ s .n = omega arith in
-    sym (and-both (leb (s .n) (length (s .t .now))) _ (le-leb (s .n) (length (s .t .now)) (omega arith)) (rw e at (l .inv .2)))
+    sym (both-true (leb (s .n) (length (s .t .now))) _ (le-leb (s .n) (length (s .t .now)) (omega arith)) (rw e at (l .inv .2)))
 
 pub sizes-right-spec : {M : Type 1} → statement M
 sizes-right-spec =
