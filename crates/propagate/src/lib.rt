@@ -1,5 +1,6 @@
 // Propagation: what follows for every consistent extension of some decided codes. It starts from the literals, the sizes and the decided
 // codes, and runs the rules until they find nothing new or a conflict shows.
+use crowd::strike_crowds;
 use knowledge::MOST;
 use knowledge::join;
 use knowledge::label;
@@ -256,7 +257,11 @@ fn round<'a>(
     if news {
         return conflict(words, marks, n) == MOST;
     }
-    mark_arguments(marks, labels, words, symbol, arg0, arg1, &fresh, n)
+    if mark_arguments(marks, labels, words, symbol, arg0, arg1, &fresh, n) {
+        return true;
+    }
+    strike_crowds(words, labels, marks, symbol, arg0, arg1, n);
+    false
 }
 
 // The rules until they find nothing new.

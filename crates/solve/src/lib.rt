@@ -185,8 +185,8 @@ fn used_words(p: Parsed, decided: [u8; 256]) -> [u16; 8]
     words
 }
 
-// How good it is to branch on a term: few codes to try, of those not in use one alone; then many groups that it differs from, and
-// many failures. 0 where it has at most one code left.
+// How good it is to branch on a term: the groups that it differs from and the failures, per code to try; of the codes not in use one
+// alone is tried. 0 where it has at most one code left.
 fn score(word: u16, used: u16, degree: u8, weight: u32) -> u32 {
     let left = word ^ 65535;
     if u16::count_ones(left) < 2 {
@@ -199,11 +199,11 @@ fn score(word: u16, used: u16, degree: u8, weight: u32) -> u32 {
     if 60000 < weight {
         return 1;
     }
-    let rest = weight + (degree as u32);
-    if left & (used ^ 65535) == 0 {
-        return (18 - old) * 65536 + rest;
+    let rest = (weight + (degree as u32) + 1) * 65536;
+    if left & (used ^ 65535) == 0 && 0 < old {
+        return rest / old;
     }
-    (17 - old) * 65536 + rest
+    rest / (old + 1)
 }
 
 // The term with the highest score among those that stand for their group; 255 where all are settled.

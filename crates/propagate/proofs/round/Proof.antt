@@ -28,10 +28,21 @@ mark-arguments-requires c κs = search needs
 
 returns-2 : tie.Need-returns-2
 returns-2 c =
-    chain (step (λ a l k. l .congruent) (c .before .before .before .before .before .before .before .before .before .before .before .before .before .before .join-congruent .ensures))
-    (chain (step (λ a l k. l .small) (c .before .before .before .before .before .before .before .before .before .before .join-singles .ensures))
-    (chain (step (λ a l k. record { small = l .small; marks = k .marks }) (in-words {w′ = c .before .before .before .before .before .before .strike-marked .last .0} (c .before .before .before .before .before .before .strike-marked .ensures)))
-    (step (λ a l k. record { lawful = l; labels = k .labels; words = k .words }) (in-marks (c .mark-arguments .ensures)))))
+    chain (step (λ a l k. l .congruent) (c .before .before .before .before .before .before .before .before .before .before .before .before .before .before .before .join-congruent .ensures))
+    (chain (step (λ a l k. l .small) (c .before .before .before .before .before .before .before .before .before .before .before .join-singles .ensures))
+    (chain (step (λ a l k. record { small = l .small; marks = k .marks }) (in-words {w′ = c .before .before .before .before .before .before .before .strike-marked .last .0} (c .before .before .before .before .before .before .before .strike-marked .ensures)))
+    (step (λ a l k. record { lawful = l; labels = k .labels; words = k .words }) (in-marks (c .before .mark-arguments .ensures)))))
+
+strike-crowds-requires : tie.Need-strike-crowds-requires
+strike-crowds-requires c κs = search needs
+
+returns-3 : tie.Need-returns-3
+returns-3 c =
+    chain (step (λ a l k. l .congruent) (c .before .before .before .before .before .before .before .before .before .before .before .before .before .before .before .before .before .before .before .join-congruent .ensures))
+    (chain (step (λ a l k. l .small) (c .before .before .before .before .before .before .before .before .before .before .before .before .before .before .before .join-singles .ensures))
+    (chain (step (λ a l k. record { small = l .small; marks = k .marks }) (in-words {w′ = c .before .before .before .before .before .before .before .before .before .before .before .strike-marked .last .0} (c .before .before .before .before .before .before .before .before .before .before .before .strike-marked .ensures)))
+    (chain (step (λ a l k. record { lawful = l; labels = k .labels; words = k .words }) (in-marks (c .before .before .before .before .before .mark-arguments .ensures)))
+    (step (λ a l k. record { lawful = l; knows = k }) (in-words (c .strike-crowds .ensures))))))
 
 pub round-spec : {M : Type 1} → statement M
 round-spec =
@@ -43,4 +54,6 @@ round-spec =
     conflict-requires
     returns
     mark-arguments-requires
-    returns-2)
+    returns-2
+    strike-crowds-requires
+    returns-3)

@@ -1,0 +1,37 @@
+-- `crowd::gather` meets its contract.
+use Prim.Native.Nat.{ℕ, _-_, _+_, _≤_, _<_}
+use Rattle.crowd.specs.Crowd.{Gathered}
+use Rattle.crowd.proofs.Laws.{nobody, ended}
+use borrow.Author.Needs.{needs}
+use native.Mathlib.Omega.{arith}
+use Rattle.crowd.proofs.gather.Statement.{statement}
+use Rattle.crowd.proofs.gather.Tie as tie
+
+abbrev Inv-loop : tie.InvT-loop
+Inv-loop words labels marks symbol arg0 arg1 n f g₀ i₀ g i = (n ≤ 128) × (i ≤ n) × Gathered n symbol arg0 arg1 labels words marks f i (g .chosen) (g .count) (g .first) (g .second)
+
+abbrev μ-loop : tie.MeasureT-loop
+μ-loop words labels marks symbol arg0 arg1 n f g₀ i₀ g i = n - i
+
+loop-holds : tie.Need-loop-holds Inv-loop μ-loop
+loop-holds c = (omega arith, omega arith, nobody _ _ _ _ _ _ _ _)
+
+grow-requires : tie.Need-grow-requires Inv-loop μ-loop
+grow-requires c κs = ((omega arith, omega arith), c .before .loop .inv .2)
+
+add-i : tie.Need-add-i Inv-loop μ-loop
+add-i c = search needs
+
+loop-less : tie.Need-loop-less Inv-loop μ-loop
+loop-less c = search needs
+
+loop-again : tie.Need-loop-again Inv-loop μ-loop
+loop-again c = (omega arith, omega arith, c .grow .ensures)
+
+returns : tie.Need-returns Inv-loop μ-loop
+returns c = let l = c .loop-test .left in let i = c .before .loop .inv in ended (omega arith) (i .2)
+
+pub gather-spec : {M : Type 1} → statement M
+gather-spec =
+    tie.close
+    (tie.spec Inv-loop μ-loop loop-holds grow-requires add-i loop-less loop-again returns)
