@@ -12,7 +12,7 @@ use Rattle.logic.proofs.Decided.{at-set-same, at-set-other}
 use Rattle.knowledge.specs.Knows.{Bit, Labels, Words, Marks, Small, Same, Differ, Means}
 use Rattle.knowledge.proofs.Bits.{compare}
 use Rattle.rules.specs.Reasons.{Lawful}
-use Rattle.crowd.specs.Crowd.{rank, Held, Known, Unlike, Free, Crowd, Gathered}
+use Rattle.crowd.specs.Crowd.{rank, Held, Unlike, Free, Crowd, Gathered}
 
 -- z in place of x where x is n
 move : {x n : ℕ} → (x < n) ⊎ ((x ≡ n) ⊎ (n < x)) → ℕ → ℕ

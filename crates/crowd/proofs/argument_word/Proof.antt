@@ -1,8 +1,6 @@
 -- `crowd::argument_word` meets its contract.
-use Prim.Native.Nat.{ℕ, _-_, _+_, _≤_, _<_}
 use Rattle.crowd.proofs.Laws.{argument-free}
 use borrow.Author.Needs.{needs}
-use native.Mathlib.Omega.{arith}
 use borrow.Author.Needs.{needs}
 use Rattle.crowd.proofs.argument_word.Statement.{statement}
 use Rattle.crowd.proofs.argument_word.Tie as tie

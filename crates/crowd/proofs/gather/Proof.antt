@@ -1,5 +1,5 @@
 -- `crowd::gather` meets its contract.
-use Prim.Native.Nat.{ℕ, _-_, _+_, _≤_, _<_}
+use Prim.Native.Nat.{_-_, _≤_}
 use Rattle.crowd.specs.Crowd.{Gathered}
 use Rattle.crowd.proofs.Laws.{nobody, ended}
 use borrow.Author.Needs.{needs}

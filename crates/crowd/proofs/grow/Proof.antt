@@ -1,9 +1,7 @@
 -- `crowd::grow` meets its contract.
-use Prim.Native.Nat.{ℕ, _-_, _+_, _≤_, _<_}
 use borrow.Author.Tests.{not-false}
 use Rattle.crowd.proofs.Laws.{taken, passed}
 use borrow.Author.Needs.{needs}
-use native.Mathlib.Omega.{arith}
 use borrow.Author.Needs.{needs}
 use Rattle.crowd.proofs.grow.Statement.{statement}
 use Rattle.crowd.proofs.grow.Tie as tie

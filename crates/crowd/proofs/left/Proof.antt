@@ -1,6 +1,6 @@
 -- `crowd::left` meets its contract.
-use Prim.Native.Nat.{ℕ, _-_, _+_, _≤_, _<_}
-use mathlib.Core.Path.{_≡_, refl, sym, ap, _∙_}
+use Prim.Native.Nat.{_-_, _≤_}
+use mathlib.Core.Path.{_≡_, refl, ap, _∙_}
 use Rattle.crowd.specs.Crowd.{rank}
 use Rattle.crowd.proofs.Laws.{rank-step}
 use borrow.Author.Needs.{needs}

@@ -1,7 +1,5 @@
 -- `crowd::strike_crowd` meets its contract.
-use Prim.Native.Nat.{ℕ, _-_, _+_, _≤_, _<_}
 use Rattle.crowd.proofs.Laws.{few-cells, cells-more, crowd-none}
-use Rattle.knowledge.specs.Knows.{Kept}
 use borrow.Author.Needs.{needs}
 use native.Mathlib.Omega.{arith}
 use borrow.Author.Needs.{needs}

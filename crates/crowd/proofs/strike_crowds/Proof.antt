@@ -1,5 +1,5 @@
 -- `crowd::strike_crowds` meets its contract.
-use Prim.Native.Nat.{ℕ, _-_, _+_, _≤_, _<_}
+use Prim.Native.Nat.{_-_, _≤_}
 use Rattle.knowledge.specs.Knows.{Kept, Words}
 use Rattle.knowledge.proofs.Laws.{stay, step, chain}
 use Rattle.crowd.specs.Crowd.{Known}
