@@ -2,15 +2,13 @@
 use finder::Finding;
 use tables::Judgement;
 ghost use mathlib.Core.Path.{_≡_};
-ghost use Prim.Native.Nat.{_<_};
 ghost use Rattle.judge.specs.Judge.{judgement};
 ghost use lib.ListN.{length};
 ghost use Rattle.finder.specs.Find.{finding, codesAfter, tablesAfter};
 ghost use Rattle.gateway.specs.Number.{refusalNumber, findNumber, judgeNumber};
 
 // A refusal as one number.
-fn refusal(number: u8, place: usize) -> u32
-    requires { ⌜ place < 65536 ⌝ }
+fn refusal(number: u8, place: u16) -> u32
     ensures { λ r. ⌜ r ≡ refusalNumber number place ⌝ }
 {
     (number as u32) * 65536 + (place as u32)
@@ -27,7 +25,7 @@ pub extern "C" fn find(sheet: &[u8], codes: &mut [u8], tables: &mut [u8]) -> u32
     let found = finder::find(sheet, codes, tables);
     match found {
         Finding::Found { sum } => sum as u32,
-        Finding::Refused { number, place } => refusal(number, place),
+        Finding::Refused { number, place } => refusal(number, place as u16),
     }
 }
 
@@ -41,6 +39,6 @@ pub extern "C" fn judge(sheet: &[u8], tables: &[u8]) -> u32
         Judgement::Fits => 0,
         Judgement::OutOfBounds => 1,
         Judgement::Broken(k) => 2 + (k as u32),
-        Judgement::Refused { number, place } => refusal(number, place),
+        Judgement::Refused { number, place } => refusal(number, place as u16),
     }
 }

@@ -22,10 +22,13 @@ cast-result c =
 enum-known-found-2 : tie.Need-enum-known-found-2
 enum-known-found-2 c = search needs
 
-refusal-requires : tie.Need-refusal-requires
-refusal-requires c κs =
+cast-refusal : tie.Need-cast-refusal
+cast-refusal c =
     let a = c .before .before .before .before .before .before .before .before .before .before .before .before .before .args in
-    find-place (a .sheet .now) (length (a .codes .now)) (length (a .tables .now)) (c .before .found2 .given .0 .0) (c .before .found2 .given .0 .1 .0) (sym (c .before .before .before .before .before .before .before .find .ensures .0) ∙ c .before .found2 .given .1)
+    omega (arith, find-place (a .sheet .now) (length (a .codes .now)) (length (a .tables .now)) (c .before .found2 .given .0 .0) (c .before .found2 .given .0 .1 .0) (sym (c .before .before .before .before .before .before .before .find .ensures .0) ∙ c .before .found2 .given .1))
+
+refusal-requires : tie.Need-refusal-requires
+refusal-requires c κs = search needs
 
 same-length : tie.Need-same-length
 same-length c = search needs
@@ -57,6 +60,7 @@ find-spec =
     enum-known-found
     cast-result
     enum-known-found-2
+    cast-refusal
     refusal-requires
     same-length
     same-length-2

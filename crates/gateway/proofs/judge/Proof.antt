@@ -32,10 +32,13 @@ add-result c =
 enum-known-j-2 : tie.Need-enum-known-j-2
 enum-known-j-2 c = search needs
 
-refusal-requires : tie.Need-refusal-requires
-refusal-requires c κs =
+cast-refusal : tie.Need-cast-refusal
+cast-refusal c =
     let a = c .before .before .before .before .before .before .args in
-    judge-place (a .sheet .now) (a .tables .now) (c .before .j2 .given .0 .0) (c .before .j2 .given .0 .1 .0) (sym (c .before .before .before .judge .ensures) ∙ c .before .j2 .given .1)
+    omega (arith, judge-place (a .sheet .now) (a .tables .now) (c .before .j2 .given .0 .0) (c .before .j2 .given .0 .1 .0) (sym (c .before .before .before .judge .ensures) ∙ c .before .j2 .given .1))
+
+refusal-requires : tie.Need-refusal-requires
+refusal-requires c κs = search needs
 
 returns : tie.Need-returns
 returns c = ap judgeNumber (sym (c .enum-told .given .1) ∙ c .before .before .judge .ensures)
@@ -60,6 +63,7 @@ judge-spec =
     cast-result
     add-result
     enum-known-j-2
+    cast-refusal
     refusal-requires
     returns
     returns-2
