@@ -14,7 +14,7 @@ ghost use Rattle.codes.specs.Tested.{Decides};
 ghost use Rattle.propagate.specs.Knowledge.{Struck};
 ghost use Rattle.solve.specs.Solved.{Solved, Knows, Used, Fresh, Worth, Settles, Planned, Node};
 
-// The answer of a search, and what it learnt: how often propagation failed in each group.
+// The answer of a search, and what it learnt: how often, and how lately, propagation failed in each group.
 pub struct Solution {
     pub found: bool,
     pub codes: [u8; 256],
@@ -153,6 +153,12 @@ pub fn decide(decided: [u8; 256], term: usize, v: usize) -> [u8; 256]
 
 // ---- Which term to branch on: no promise rests on these.
 
+// The weight of one failure, which counts as much as one group that a term differs from.
+const FAILURE: u32 = 65536;
+
+// A weight that fading failures do not reach.
+const HEAVIEST: u32 = 16777216;
+
 // The words of the sorts with a code marked; 255 marks none.
 fn with_code(words: [u16; 8], sort: u8, code: u8) -> [u16; 8] {
     let s = wide(sort);
@@ -185,8 +191,8 @@ fn used_words(p: Parsed, decided: [u8; 256]) -> [u16; 8]
     words
 }
 
-// How good it is to branch on a term: the groups that it differs from and the failures, per code to try; of the codes not in use one
-// alone is tried. 0 where it has at most one code left.
+// How good it is to branch on a term: its weight and the groups that it differs from, per code to try; of the codes not in use one alone
+// is tried. 0 where it has at most one code left.
 fn score(word: u16, used: u16, degree: u8, weight: u32) -> u32 {
     let left = word ^ 65535;
     if u16::count_ones(left) < 2 {
@@ -196,10 +202,10 @@ fn score(word: u16, used: u16, degree: u8, weight: u32) -> u32 {
     if 16 < old {
         return 1;
     }
-    if 60000 < weight {
+    if HEAVIEST < weight {
         return 1;
     }
-    let rest = (weight + (degree as u32) + 1) * 65536;
+    let rest = weight + ((degree as u32) + 1) * FAILURE;
     if left & (used ^ 65535) == 0 && 0 < old {
         return rest / old;
     }
@@ -232,13 +238,24 @@ fn choose(p: Parsed, decided: [u8; 256], o: Outcome, weights: [u32; 128]) -> usi
     best
 }
 
-// The weights with one more failure of a group.
+// The weights with a share taken off each.
+fn faded(weights: [u32; 128]) -> [u32; 128] {
+    let mut less = weights;
+    let mut k: usize = 0;
+    while k < 128 {
+        less[k] = less[k] - less[k] / 128;
+        k += 1;
+    }
+    less
+}
+
+// The weights with one more failure of a group; what failed lately counts most.
 fn heavier(weights: [u32; 128], group: u8) -> [u32; 128] {
     let g = wide(group);
-    let mut more = weights;
+    let mut more = faded(weights);
     if g < 128 {
-        if more[g] < 60000 {
-            more[g] = more[g] + 1;
+        if more[g] < HEAVIEST {
+            more[g] = more[g] + FAILURE;
         }
     }
     more
