@@ -23,7 +23,7 @@ fn lower(
     decided: [u8; 256],
     term: usize,
     model: [u8; 256],
-    weights: [u32; 128],
+    weights: [u16; 128],
 ) -> Solution
     requires { ⌜ Searchable p ⌝ }
     requires { ⌜ Small p (at sizes) ⌝ }
@@ -80,7 +80,7 @@ pub fn first_codes(p: Parsed, sizes: [u8; 8]) -> Codes
     ensures { λ r. ⌜ FirstCodes (view p) (at sizes) (r .found) (at (r .codes)) ⌝ }
 {
     let mut decided = [255u8; 256];
-    let s = solve::solve(p, sizes, decided, [0u32; 128]);
+    let s = solve::solve(p, sizes, decided, [0u16; 128]);
     let mut model = s.codes;
     let mut learnt = s.weights;
     if !s.found {

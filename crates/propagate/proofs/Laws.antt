@@ -1,6 +1,6 @@
 -- Arrays at the start and at the end of propagation, and what a consistent assignment gives the rules.
 use Prim.Native.Nat.{ℕ, zero, suc, _+_, _≤_, _<_}
-use mathlib.Core.Path.{_≡_, refl, ap, _∙_}
+use mathlib.Core.Path.{_≡_, refl, ap, subst, _∙_}
 use mathlib.Core.List.{List}
 use mathlib.Core.Logic.{_⊎_, inl, inr}
 use native.Mathlib.Omega.{arith}
@@ -10,11 +10,11 @@ use Rattle.logic.specs.Structure.{at}
 use Rattle.logic.specs.Problem.{Consistent, Extends}
 use Rattle.sheet.specs.declared.Parsed.{Parsed}
 use Rattle.sheet.specs.Packed.{view}
-use Rattle.knowledge.specs.Knows.{Bit, Words, Marks, Labels, Knows, Small, Kept}
+use Rattle.knowledge.specs.Knows.{Bit, Words, Marks, Labels, Knows, Small, Same, Kept}
 use Rattle.knowledge.proofs.Bits.{bit-none, compare}
 use Rattle.knowledge.proofs.Laws.{after-set}
 use Rattle.rules.specs.Reasons.{Lawful}
-use Rattle.propagate.specs.Start.{SmallSizes, Own, Fixed, SameHold, DifferHold}
+use Rattle.propagate.specs.Start.{Own, Fixed, SameHold, DifferHold}
 
 at-zeros : (n i : ℕ) → at (replicate n 0) i ≡ 0
 at-zeros zero i = refl
@@ -36,6 +36,10 @@ words-put w k s c h d i b =
       | inr e ↦ let b′ : Bit s (c k) = rw (e .1, ap c (e .0)) at b in d b′
     ]
 
+-- a code that a term does not have is not that of its group either
+pub group-free : (g i s : ℕ) (c : ℕ → ℕ) → Same g i c → (Bit s (c i) → ⊥) → Bit s (c g) → ⊥
+group-free g i s c same free b = free (subst (Bit s) same b)
+
 -- one more term that is its own label
 pub own-more : (l : List ℕ) (i : ℕ) → i < length l → ((j : ℕ) → j < i → at l j ≡ j) → (j : ℕ) → j < i + 1 → at (set l i i) j ≡ j
 own-more l i h p j g =
@@ -44,33 +48,35 @@ own-more l i h p j g =
       | inr r ↦ elim r [ inl e ↦ rw e (getD-set-same l i i 0 h) | inr q ↦ absurd (omega arith) ]
     ]
 
--- a bound on every entry, 0 standing past the end
-pub bounded : (l : List ℕ) (n b : ℕ) → length l ≤ n → ((j : ℕ) → j < n → at l j ≤ b) → (s : ℕ) → at l s ≤ b
-bounded l n b h p s =
-    elim (compare s n) [
-      | inl q ↦ p s q
-      | inr r ↦
-          let g : length l ≤ s = elim r [ inl e ↦ omega arith | inr q ↦ omega arith ] in
-          let z : at l s ≡ 0 = List·getD-eq-default l 0 g in
-          omega arith
-    ]
+-- what the literals give every consistent assignment
+module _ (p : Parsed) (sizes : ℕ → ℕ) (m : ℕ) (hm : m ≤ p .literals) (c : ℕ → ℕ) (k : Consistent (view p) sizes c) where
+  pub begun : {l₀ l₁ w₁ m₁ m₂ : List ℕ}
+      → Own l₀
+      → Kept (SameHold m (p .equal) (p .left) (p .right)) (Knows l₀ (replicate 128 0) (replicate 256 0)) (Knows l₁ w₁ m₁)
+      → Kept (DifferHold m (p .equal) (p .left) (p .right) l₁) (Marks m₁) (Marks m₂)
+      → Knows l₁ w₁ m₂ c
+  begun {l₀} {l₁} {w₁} {m₁} {m₂} own same differ =
+      let first : Knows l₀ (replicate 128 0) (replicate 256 0) c =
+      record {
+        labels = λ i h. ap c (own i h);
+        words = words-none 128 c;
+        marks = marks-none 256 c;
+      } in
+      let then : Knows l₁ w₁ m₁ c = same .kept c (λ j h. k .same j (omega arith)) first in
+      record {
+        labels = then .labels;
+        words = then .words;
+        marks = differ .kept c (record { differ = λ j h. k .differ j (omega arith); labels = then .labels }) (then .marks);
+      }
 
 -- what a consistent assignment that keeps to the decided codes gives the rules, and what is known of it after them
-module _ (p : Parsed) (sizes decided : List ℕ) (n m : ℕ) (hn : n ≤ p .terms) (hm : m ≤ p .literals) (hs : SmallSizes sizes)
-    (c : ℕ → ℕ) (k : Consistent (view p) (at sizes) c) (x : Extends (view p) (at decided) c) where
-  pub small : Small c
-  small i =
-      elim (compare i (p .terms)) [
-        | inl h ↦ omega (arith, k .range i h, hs (at (p .sort) i))
-        | inr r ↦
-            let z : c i ≡ 0 = k .none i (elim r [ inl e ↦ omega arith | inr g ↦ omega arith ]) in
-            omega arith
-      ]
-
-  fixed : Fixed n (p .sort) sizes decided c
-  fixed =
+module _ (p : Parsed) (sizes decided : List ℕ) (n : ℕ) (hn : n ≤ p .terms)
+    (c : ℕ → ℕ) (k : Consistent (view p) (at sizes) c) (x : Extends (view p) (at decided) c) (small : Small c) where
+  fixed : (l : List ℕ) → Labels l c → Fixed n l (p .sort) sizes decided c
+  fixed l right =
       record {
         small = small;
+        labels = right;
         range = λ i h. k .range i (omega arith);
         fixed = λ i h d. x i (omega arith) d;
       }
@@ -78,20 +84,10 @@ module _ (p : Parsed) (sizes decided : List ℕ) (n m : ℕ) (hn : n ≤ p .term
   lawful : Lawful n (p .symbol) (p .arg0) (p .arg1) c
   lawful = record { small = small; congruent = λ i j hi hj. k .congruent i j (omega arith) (omega arith) }
 
-  pub known : {l₀ l₁ l₂ w₁ w₂ w₃ m₁ m₂ m₃ : List ℕ}
-      → Own l₀
-      → Kept (Fixed n (p .sort) sizes decided) (Words (replicate 128 0)) (Words w₁)
-      → Kept (SameHold m (p .equal) (p .left) (p .right)) (Knows l₀ w₁ (replicate 256 0)) (Knows l₁ w₂ m₁)
-      → Kept (DifferHold m (p .equal) (p .left) (p .right) l₁) (Marks m₁) (Marks m₂)
-      → Kept (Lawful n (p .symbol) (p .arg0) (p .arg1)) (Knows l₁ w₂ m₂) (Knows l₂ w₃ m₃)
-      → Knows l₂ w₃ m₃ c
-  known {l₀} {l₁} {l₂} {w₁} {w₂} {w₃} {m₁} {m₂} {m₃} own start same differ rules =
-      let first : Knows l₀ w₁ (replicate 256 0) c =
-      record {
-        labels = λ i h. ap c (own i h);
-        words = start .kept c fixed (words-none 128 c);
-        marks = marks-none 256 c;
-      } in
-      let then : Knows l₁ w₂ m₁ c = same .kept c (λ j h. k .same j (omega arith)) first in
-      let marks : Marks m₂ c = differ .kept c (record { differ = λ j h. k .differ j (omega arith); labels = then .labels }) (then .marks) in
-      rules .kept c lawful (record { labels = then .labels; words = then .words; marks = marks })
+  pub known : {l₁ l₂ w₁ w₂ w₃ m₁ m₂ : List ℕ}
+      → Knows l₁ w₁ m₁ c
+      → Kept (Fixed n l₁ (p .sort) sizes decided) (Words w₁) (Words w₂)
+      → Kept (Lawful n (p .symbol) (p .arg0) (p .arg1)) (Knows l₁ w₂ m₁) (Knows l₂ w₃ m₂)
+      → Knows l₂ w₃ m₂ c
+  known {l₁} first start rules =
+      rules .kept c lawful (record { labels = first .labels; words = start .kept c (fixed l₁ (first .labels)) (first .words); marks = first .marks })

@@ -1,17 +1,28 @@
 -- What propagation may say of the codes that are still possible. It need say nothing: leaving an inference out is always sound.
-use Prim.Native.Nat.{ℕ, _<_, _/_, _%_, _^_}
+use Prim.Native.Nat.{ℕ}
 use mathlib.Core.Path.{_≡_}
 use mathlib.Core.Bool.{Bool, true}
 use mathlib.Core.List.{List}
-use Rattle.logic.specs.Structure.{at}
 use Rattle.logic.specs.Problem.{Problem, Consistent, Extends, Dead}
+use Rattle.knowledge.specs.Knows.{Bit, Knows, Small}
 
--- the code v is struck out in the word w: bit v is set
+-- the code v is struck out in the word w
 abbrev pub Struck : ℕ → ℕ → Type 0
-Struck w v = w / 2 ^ v % 2 ≡ 1
+Struck w v = Bit w v
 
--- of the consistent codes that keep to what q decides: there are none where isDead is true, and no term has a code that is struck out
--- in its word
-pub record Propagated (P : Problem) (size q : ℕ → ℕ) (isDead : Bool) (words : List ℕ) : Type 0 where
+-- known of the consistent codes of any sizes
+abbrev pub Begun : Problem → List ℕ → List ℕ → List ℕ → Type 0
+Begun P l w m = (size c : ℕ → ℕ) → Consistent P size c → Knows l w m c
+
+-- consistent codes of these sizes are those that words of 16 bits can tell apart
+abbrev pub Short : Problem → (ℕ → ℕ) → Type 0
+Short P size = (c : ℕ → ℕ) → Consistent P size c → Small c
+
+-- known of the consistent codes that keep to what q decides
+abbrev pub Knowing : Problem → (ℕ → ℕ) → (ℕ → ℕ) → List ℕ → List ℕ → List ℕ → Type 0
+Knowing P size q l w m = (c : ℕ → ℕ) → Consistent P size c → Extends P q c → Knows l w m c
+
+-- of the consistent codes that keep to what q decides: there are none where isDead is true, and all that is known is true of them
+pub record Propagated (P : Problem) (size q : ℕ → ℕ) (isDead : Bool) (l w m : List ℕ) : Type 0 where
   pub dead : isDead ≡ true → Dead P size q
-  pub struck : (c : ℕ → ℕ) → Consistent P size c → Extends P q c → (i : ℕ) → i < P .terms → Struck (at words i) (c i) → ⊥
+  pub knowing : Knowing P size q l w m

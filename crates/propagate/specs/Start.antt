@@ -1,14 +1,10 @@
 -- What the start of propagation rests on, said of one assignment c of codes to terms.
-use Prim.Native.Nat.{ℕ, _≤_, _<_}
+use Prim.Native.Nat.{ℕ, _<_}
 use mathlib.Core.Path.{_≡_}
 use mathlib.Core.List.{List}
 use Rattle.logic.specs.Structure.{at}
 use Rattle.logic.specs.Problem.{undecided}
 use Rattle.knowledge.specs.Knows.{Bit, Words, Marks, Labels, Small}
-
--- no size is above 16
-abbrev pub SmallSizes : List ℕ → Type 0
-SmallSizes sizes = (s : ℕ) → at sizes s ≤ 16
 
 -- the labels say nothing yet
 abbrev pub Own : List ℕ → Type 0
@@ -18,9 +14,10 @@ Own l = (i : ℕ) → i < 128 → at l i ≡ i
 pub record Beyond (size w : ℕ) : Type 0 where
   pub beyond : (v : ℕ) → v < 16 → v < size → Bit w v → ⊥
 
--- of the first n terms: codes below the size of the sort, and as decided
-pub record Fixed (n : ℕ) (sort sizes decided : List ℕ) (c : ℕ → ℕ) : Type 0 where
+-- of the first n terms: codes below the size of the sort, and as decided, and the labels are right
+pub record Fixed (n : ℕ) (l sort sizes decided : List ℕ) (c : ℕ → ℕ) : Type 0 where
   pub small : Small c
+  pub labels : Labels l c
   pub range : (i : ℕ) → i < n → c i < at sizes (at sort i)
   pub fixed : (i : ℕ) → i < n → (at decided i ≡ undecided → ⊥) → c i ≡ at decided i
 

@@ -1,5 +1,5 @@
-// Propagation: what follows for every consistent extension of some decided codes. It starts from the literals, the sizes and the decided
-// codes, and runs the rules until they find nothing new or a conflict shows.
+// Propagation: what follows for every consistent extension of some decided codes. It starts from what is known already, at first from the
+// literals alone; the sizes and the decided codes come in, and the rules run until they find nothing new or a conflict shows.
 use crowd::strike_crowds;
 use knowledge::MOST;
 use knowledge::join;
@@ -16,28 +16,35 @@ use rules::strike_marked;
 use sheet::Parsed;
 ghost use Prim.Native.Nat.{_≤_, _<_};
 ghost use mathlib.Core.Path.{_≡_};
-ghost use mathlib.Core.Bool.{true, false};
-ghost use lib.ListN.{replicate};
 ghost use Rattle.logic.specs.Structure.{at};
 ghost use Rattle.knowledge.specs.Knows.{Bit, Labels, Words, Marks, Knows, Means, Kept};
 ghost use Rattle.rules.specs.Reasons.{Lawful};
 ghost use Rattle.sheet.specs.Packed.{view};
-ghost use Rattle.propagate.specs.Knowledge.{Propagated};
-ghost use Rattle.propagate.specs.Start.{SmallSizes, Own, Beyond, Fixed, SameHold, DifferHold, Shown, Grouped, Never};
+ghost use Rattle.propagate.specs.Knowledge.{Begun, Short, Knowing, Propagated};
+ghost use Rattle.propagate.specs.Start.{Own, Beyond, Fixed, SameHold, DifferHold, Shown, Grouped, Never};
 
 // The most rounds of the rules.
 const ROUNDS: usize = 512;
 
-// What propagation found out. Only dead and struck are promised; the rest guides the search.
-pub struct Outcome {
-    // no consistent codes keep to the decided ones
-    pub dead: bool,
-    // the group in which that showed
-    pub group: u8,
+// What is known of some assignments of codes to terms.
+pub struct Known {
     // the group of each term, named by one of its terms
     pub labels: [u8; 128],
     // the codes that each term cannot have: bit v for code v
-    pub struck: [u16; 128],
+    pub words: [u16; 128],
+    // the pairs of terms with different codes
+    pub marks: [u64; 256],
+}
+
+// What propagation found out: whether no consistent codes keep to the decided ones, and what is known of those that do; group and degree
+// only guide the search.
+pub struct Outcome {
+    pub dead: bool,
+    // the group in which that showed
+    pub group: u8,
+    pub labels: [u8; 128],
+    pub words: [u16; 128],
+    pub marks: [u64; 256],
     // how many groups each term's group is known to differ from
     pub degree: [u8; 128],
 }
@@ -47,20 +54,6 @@ fn clamped(n: usize) -> usize
     ensures { λ r. ⌜ (r ≤ n) × (r ≤ 128) ⌝ }
 {
     if n < MOST { n } else { MOST }
-}
-
-// Whether no size is above 16.
-fn small_sizes(sizes: [u8; 8]) -> bool
-    ensures { λ r. ⌜ (r ≡ true → SmallSizes sizes) ⌝ }
-{
-    let mut s: usize = 0;
-    while s < 8 {
-        if 16 < sizes[s] {
-            return false;
-        }
-        s += 1;
-    }
-    true
 }
 
 // Each term is its own label.
@@ -100,9 +93,10 @@ fn all_but(code: u8) -> u16
     65535 - (1u16 << code)
 }
 
-// What the size and the decided code strike out for one term.
+// What the size and the decided code strike out for one term, in the word of its group.
 fn start_word<'a>(
     words: &mut [u16; 128],
+    labels: &'a [u8; 128],
     sort: &'a [u8; 128],
     sizes: &'a [u8; 8],
     decided: &'a [u8; 256],
@@ -110,30 +104,32 @@ fn start_word<'a>(
     i: usize,
 )
     requires { ⌜ (n ≤ 128) × (i < n) ⌝ }
-    ensures { λ _. ⌜ Kept (Fixed n (now (sort .entry)) (now (sizes .entry)) (now (decided .entry))) (Words (now (words .entry))) (Words (now (words .exit))) ⌝ }
+    ensures { λ _. ⌜ Kept (Fixed n (now (labels .entry)) (now (sort .entry)) (now (sizes .entry)) (now (decided .entry))) (Words (now (words .entry))) (Words (now (words .exit))) ⌝ }
 {
-    strike(words, i, beyond(sizes, wide(sort[i])));
+    let g = label(labels, i);
+    strike(words, g, beyond(sizes, wide(sort[i])));
     let code = decided[i];
     if code == 255 {
         return;
     }
-    strike(words, i, all_but(code));
+    strike(words, g, all_but(code));
 }
 
 // What the sizes and the decided codes strike out.
 fn start_words<'a>(
     words: &mut [u16; 128],
+    labels: &'a [u8; 128],
     sort: &'a [u8; 128],
     sizes: &'a [u8; 8],
     decided: &'a [u8; 256],
     n: usize,
 )
     requires { ⌜ n ≤ 128 ⌝ }
-    ensures { λ _. ⌜ Kept (Fixed n (now (sort .entry)) (now (sizes .entry)) (now (decided .entry))) (Words (now (words .entry))) (Words (now (words .exit))) ⌝ }
+    ensures { λ _. ⌜ Kept (Fixed n (now (labels .entry)) (now (sort .entry)) (now (sizes .entry)) (now (decided .entry))) (Words (now (words .entry))) (Words (now (words .exit))) ⌝ }
 {
     let mut i: usize = 0;
     while i < n {
-        start_word(words, sort, sizes, decided, n, i);
+        start_word(words, labels, sort, sizes, decided, n, i);
         i += 1;
     }
 }
@@ -236,32 +232,67 @@ fn conflict<'a>(words: &'a [u16; 128], marks: &'a [u64; 256], n: usize) -> usize
     MOST
 }
 
-// All rules once; says whether another round may find more.
+// R3, which has nothing to do where no groups were joined since it last went through.
+fn join_moved<'a>(
+    labels: &mut [u8; 128],
+    words: &mut [u16; 128],
+    marks: &mut [u64; 256],
+    fresh: &mut [u8; 128],
+    symbol: &'a [u8; 128],
+    arg0: &'a [u8; 128],
+    arg1: &'a [u8; 128],
+    n: usize,
+    joined: bool,
+) -> bool
+    requires { ⌜ n ≤ 128 ⌝ }
+    ensures { λ _. ⌜ Kept (Lawful n (now (symbol .entry)) (now (arg0 .entry)) (now (arg1 .entry))) (Knows (now (labels .entry)) (now (words .entry)) (now (marks .entry))) (Knows (now (labels .exit)) (now (words .exit)) (now (marks .exit))) ⌝ }
+{
+    if joined {
+        return join_congruent(labels, words, marks, fresh, symbol, arg0, arg1, n);
+    }
+    false
+}
+
+// What a round says of the next: it finds nothing, or it may find more, groups having been joined or not.
+const NOTHING: usize = 0;
+
+const MORE: usize = 1;
+
+const JOINED: usize = 2;
+
+fn said(open: bool, joins: bool) -> usize {
+    if !open {
+        return NOTHING;
+    }
+    if joins { JOINED } else { MORE }
+}
+
+// All rules once.
 fn round<'a>(
     labels: &mut [u8; 128],
     words: &mut [u16; 128],
     marks: &mut [u64; 256],
+    fresh: &mut [u8; 128],
     symbol: &'a [u8; 128],
     arg0: &'a [u8; 128],
     arg1: &'a [u8; 128],
     sort: &'a [u8; 128],
     n: usize,
-) -> bool
+    joined: bool,
+) -> usize
     requires { ⌜ n ≤ 128 ⌝ }
     ensures { λ _. ⌜ Kept (Lawful n (now (symbol .entry)) (now (arg0 .entry)) (now (arg1 .entry))) (Knows (now (labels .entry)) (now (words .entry)) (now (marks .entry))) (Knows (now (labels .exit)) (now (words .exit)) (now (marks .exit))) ⌝ }
 {
-    let mut fresh = [0u8; 128];
-    let mut news = join_congruent(labels, words, marks, &mut fresh, symbol, arg0, arg1, n);
-    news = join_singles(labels, words, marks, sort, n) | news;
-    news = strike_marked(words, labels, marks, n) | news;
-    if news {
-        return conflict(words, marks, n) == MOST;
+    let mut joins = join_moved(labels, words, marks, fresh, symbol, arg0, arg1, n, joined);
+    joins = join_singles(labels, words, marks, sort, n) | joins;
+    if strike_marked(words, labels, marks, n) | joins {
+        return said(conflict(words, marks, n) == MOST, joins);
     }
-    if mark_arguments(marks, labels, words, symbol, arg0, arg1, &fresh, n) {
-        return true;
+    if mark_arguments(marks, labels, words, symbol, arg0, arg1, fresh, n) {
+        return MORE;
     }
     strike_crowds(words, labels, marks, symbol, arg0, arg1, n);
-    false
+    NOTHING
 }
 
 // The rules until they find nothing new.
@@ -278,10 +309,22 @@ fn rounds<'a>(
     requires { ⌜ n ≤ 128 ⌝ }
     ensures { λ _. ⌜ Kept (Lawful n (now (symbol .entry)) (now (arg0 .entry)) (now (arg1 .entry))) (Knows (now (labels .entry)) (now (words .entry)) (now (marks .entry))) (Knows (now (labels .exit)) (now (words .exit)) (now (marks .exit))) ⌝ }
 {
-    let mut news = true;
+    let mut fresh = [0u8; 128];
+    let mut news = JOINED;
     let mut done: usize = 0;
-    while news && done < ROUNDS {
-        news = round(labels, words, marks, symbol, arg0, arg1, sort, n);
+    while news != NOTHING && done < ROUNDS {
+        news = round(
+            labels,
+            words,
+            marks,
+            &mut fresh,
+            symbol,
+            arg0,
+            arg1,
+            sort,
+            n,
+            news == JOINED,
+        );
         done += 1;
     }
 }
@@ -335,32 +378,14 @@ fn degrees<'a>(labels: &'a [u8; 128], marks: &'a [u64; 256]) -> [u8; 128] {
     out
 }
 
-// Nothing found out.
-fn nothing() -> Outcome
-    ensures { λ r. ⌜ (r .dead ≡ false) × (r .struck ≡ replicate 128 0) ⌝ }
+// What the literals say, which is known of all consistent codes.
+pub fn begin(p: Parsed) -> Known
+    ensures { λ r. ⌜ Begun (view p) (r .labels) (r .words) (r .marks) ⌝ }
 {
-    Outcome {
-        dead: false,
-        group: 0,
-        labels: [0u8; 128],
-        struck: [0u16; 128],
-        degree: [0u8; 128],
-    }
-}
-
-// What holds of every consistent extension of the decided codes at these sizes.
-pub fn propagate(p: Parsed, sizes: [u8; 8], decided: [u8; 256]) -> Outcome
-    ensures { λ r. ⌜ Propagated (view p) (at sizes) (at decided) (r .dead) (r .struck) ⌝ }
-{
-    if !small_sizes(sizes) {
-        return nothing();
-    }
-    let n = clamped(p.terms);
     let m = clamped(p.literals);
     let mut labels = own_labels();
     let mut words = [0u16; 128];
     let mut marks = [0u64; 256];
-    start_words(&mut words, &p.sort, &sizes, &decided, n);
     join_same(
         &mut labels,
         &mut words,
@@ -371,24 +396,50 @@ pub fn propagate(p: Parsed, sizes: [u8; 8], decided: [u8; 256]) -> Outcome
         m,
     );
     mark_differ(&mut marks, &labels, &p.equal, &p.left, &p.right, m);
+    Known {
+        labels,
+        words,
+        marks,
+    }
+}
+
+// What holds of every consistent extension of the decided codes at these sizes, from what is known of them already.
+pub fn propagate<'a>(
+    p: Parsed,
+    sizes: [u8; 8],
+    decided: [u8; 256],
+    labels: &'a [u8; 128],
+    words: &'a [u16; 128],
+    marks: &'a [u64; 256],
+) -> Outcome
+    requires { ⌜ Short (view p) (at sizes) ⌝ }
+    requires { ⌜ Knowing (view p) (at sizes) (at decided) (now labels) (now words) (now marks) ⌝ }
+    ensures { λ r. ⌜ Propagated (view p) (at sizes) (at decided) (r .dead) (r .labels) (r .words) (r .marks) ⌝ }
+{
+    let n = clamped(p.terms);
+    let mut l = *labels;
+    let mut w = *words;
+    let mut k = *marks;
+    start_words(&mut w, &l, &p.sort, &sizes, &decided, n);
     rounds(
-        &mut labels,
-        &mut words,
-        &mut marks,
+        &mut l,
+        &mut w,
+        &mut k,
         &p.symbol,
         &p.arg0,
         &p.arg1,
         &p.sort,
         n,
     );
-    let g = conflict(&words, &marks, n);
-    let struck = spread(&labels, &words);
-    let degree = degrees(&labels, &marks);
+    let g = conflict(&w, &k, n);
+    let struck = spread(&l, &w);
+    let degree = degrees(&l, &k);
     Outcome {
         dead: g < MOST,
         group: (g % 256) as u8,
-        labels,
-        struck,
+        labels: l,
+        words: struck,
+        marks: k,
         degree,
     }
 }

@@ -198,10 +198,12 @@ fn meet_key<'a>(
         fresh[i] = 1;
         return false;
     }
+    fresh[i] = 0;
     congruent(labels, words, marks, symbol, arg0, arg1, n, i, j)
 }
 
-// R3: terms of one symbol whose arguments have equal labels are one group; fresh becomes 1 at the first of each such group.
+// R3: terms of one symbol whose arguments have equal labels are one group; fresh becomes 1 at the first of each such group and 0
+// at the others.
 pub fn join_congruent<'a>(
     labels: &mut [u8; 128],
     words: &mut [u16; 128],

@@ -19,19 +19,19 @@ pub struct Sizes {
 // Whether sizes have consistent codes, and what the search learnt.
 struct Probing {
     found: bool,
-    weights: [u32; 128],
+    weights: [u16; 128],
 }
 
 // A size of one sort, and what the search learnt.
 struct Edged {
     value: usize,
-    weights: [u32; 128],
+    weights: [u16; 128],
 }
 
 // Sizes, and what the search learnt.
 struct Widened {
     sizes: [u8; 8],
-    weights: [u32; 128],
+    weights: [u16; 128],
 }
 
 // Where sizes may lie.
@@ -44,7 +44,7 @@ struct Room {
 struct State {
     found: bool,
     best: [u8; 8],
-    weights: [u32; 128],
+    weights: [u16; 128],
 }
 
 // A region that is done, or a box that its lowest sizes lie in.
@@ -55,7 +55,7 @@ struct Looking {
 }
 
 // Whether these sizes have consistent codes.
-fn probe(p: Parsed, sizes: [u8; 8], weights: [u32; 128]) -> Probing
+fn probe(p: Parsed, sizes: [u8; 8], weights: [u16; 128]) -> Probing
     requires { ⌜ Searchable p ⌝ }
     requires { ⌜ Small p (at sizes) ⌝ }
     ensures { λ r. ⌜ Probed (view p) (r .found) (at sizes) ⌝ }
@@ -122,7 +122,7 @@ fn edge(
     lo: usize,
     hi: usize,
     first: usize,
-    weights: [u32; 128],
+    weights: [u16; 128],
 ) -> Edged
     requires { ⌜ Searchable p ⌝ }
     requires { ⌜ Small p (at base) ⌝ }
@@ -206,7 +206,7 @@ fn limits(p: Parsed) -> Room
 }
 
 // Floors raised, one sort at a time, to the least size that the greatest sizes of the others leave.
-fn raise(p: Parsed, high: [u8; 8], weights: [u32; 128]) -> Widened
+fn raise(p: Parsed, high: [u8; 8], weights: [u16; 128]) -> Widened
     requires { ⌜ Searchable p ⌝ }
     requires { ⌜ Limits (view p) true (at high) ⌝ }
     ensures { λ r. ⌜ Raised (view p) (at (r .sizes)) (at high) ⌝ }
@@ -232,7 +232,7 @@ fn raise(p: Parsed, high: [u8; 8], weights: [u32; 128]) -> Widened
 }
 
 // A box around barren sizes: each in turn as great as it can be while nothing consistent comes in.
-fn widen(p: Parsed, low: [u8; 8], high: [u8; 8], weights: [u32; 128]) -> Widened
+fn widen(p: Parsed, low: [u8; 8], high: [u8; 8], weights: [u16; 128]) -> Widened
     requires { ⌜ Searchable p ⌝ }
     requires { ⌜ Region (view p) (at low) (at high) ⌝ }
     requires { ⌜ Barren (view p) (at low) ⌝ }
@@ -364,7 +364,7 @@ pub fn least_sizes(p: Parsed) -> Sizes
             sizes: high,
         };
     }
-    let top = probe(p, high, [0u32; 128]);
+    let top = probe(p, high, [0u16; 128]);
     let weights = top.weights;
     if !top.found {
         return Sizes {

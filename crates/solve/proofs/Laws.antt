@@ -15,8 +15,23 @@ use Rattle.logic.specs.Problem.{Problem, WellSorted, Consistent, Extends, Dead,
 use Rattle.logic.proofs.Consistent.{Unused, equal-codes, swapped, swapped-consistent, swapped-second, swapped-extends}
 use Rattle.logic.proofs.Decided.{at-set, at-set-same, at-set-other, at-zeros, decide-more, decide-less}
 use Rattle.codes.specs.Tested.{Decides, Padded}
-use Rattle.propagate.specs.Knowledge.{Struck}
+use Rattle.propagate.specs.Knowledge.{Struck, Short, Knowing}
 use Rattle.solve.specs.Solved.{Solved, Knows, Used, Fresh, Worth, Covers, Branches, Read, Planned, Node}
+
+-- ---- what is known before and after a decision
+module _ (P : Problem) (sizes : ℕ → ℕ) where
+  pub short : WellSorted P → ((s : ℕ) → s < P .sorts → sizes s ≤ 16) → Short P sizes
+  short w small c con i =
+      elim (decLt i (P .terms)) [
+        | yes h ↦ let a = con .range i h in let b = small (P .sort i) (w .sort i h) in omega arith
+        | no n ↦ let e = con .none i (omega arith) in omega arith
+      ]
+
+  pub knowing-struck : (q : ℕ → ℕ) (l words m : List ℕ) → Knowing P sizes q l words m → Knows P sizes q words
+  knowing-struck q l words m k c con ext i h = k c con ext .words i
+
+  pub knowing-decided : (l words m decided more : List ℕ) (term v : ℕ) → Knowing P sizes (at decided) l words m → at decided term ≡ undecided → more ≡ set decided term v → Knowing P sizes (at more) l words m
+  knowing-decided l words m decided more term v k u e c con ext = k c con (decide-less P decided term v c u (subst (λ (d : List ℕ). Extends P (at d) c) e ext))
 
 -- ---- flags of the codes in use
 -- the flags while the terms below j have been passed

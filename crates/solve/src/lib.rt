@@ -1,24 +1,23 @@
 // The search at given sizes: consistent codes that keep to some decided ones, or that there are none.
 use codes::wide;
-use propagate::Outcome;
 use sheet::Parsed;
-ghost use mathlib.Core.Bool.{false};
+ghost use mathlib.Core.Bool.{true, false};
 ghost use mathlib.Core.Path.{_≡_};
 ghost use Prim.Native.Nat.{ℕ, _<_, _≤_};
 ghost use lib.ListN.{set};
 ghost use Rattle.logic.specs.Structure.{at};
-ghost use Rattle.logic.specs.Problem.{undecided};
+ghost use Rattle.logic.specs.Problem.{Dead, undecided};
 ghost use Rattle.sheet.specs.Packed.{view};
 ghost use Rattle.codes.specs.Searchable.{Searchable, Small};
 ghost use Rattle.codes.specs.Tested.{Decides};
-ghost use Rattle.propagate.specs.Knowledge.{Struck};
+ghost use Rattle.propagate.specs.Knowledge.{Struck, Knowing};
 ghost use Rattle.solve.specs.Solved.{Solved, Knows, Used, Fresh, Worth, Settles, Planned, Node};
 
 // The answer of a search, and what it learnt: how often, and how lately, propagation failed in each group.
 pub struct Solution {
     pub found: bool,
     pub codes: [u8; 256],
-    pub weights: [u32; 128],
+    pub weights: [u16; 128],
 }
 
 // One node of the search. Where it is neither dead nor found, a term to branch on, with the size of its sort, the codes struck out,
@@ -32,7 +31,7 @@ pub struct Step {
     pub word: u16,
     pub fresh: usize,
     pub used: [u8; 16],
-    pub weights: [u32; 128],
+    pub weights: [u16; 128],
 }
 
 // A term that is not settled, or the codes of all terms.
@@ -154,10 +153,10 @@ pub fn decide(decided: [u8; 256], term: usize, v: usize) -> [u8; 256]
 // ---- Which term to branch on: no promise rests on these.
 
 // The weight of one failure, which counts as much as one group that a term differs from.
-const FAILURE: u32 = 65536;
+const FAILURE: u16 = 256;
 
-// A weight that fading failures do not reach.
-const HEAVIEST: u32 = 16777216;
+// The weight past which a failure adds nothing.
+const HEAVIEST: u16 = 65000;
 
 // The words of the sorts with a code marked; 255 marks none.
 fn with_code(words: [u16; 8], sort: u8, code: u8) -> [u16; 8] {
@@ -193,7 +192,7 @@ fn used_words(p: Parsed, decided: [u8; 256]) -> [u16; 8]
 
 // How good it is to branch on a term: its weight and the groups that it differs from, per code to try; of the codes not in use one alone
 // is tried. 0 where it has at most one code left.
-fn score(word: u16, used: u16, degree: u8, weight: u32) -> u32 {
+fn score(word: u16, used: u16, degree: u8, weight: u16) -> u32 {
     let left = word ^ 65535;
     if u16::count_ones(left) < 2 {
         return 0;
@@ -202,10 +201,7 @@ fn score(word: u16, used: u16, degree: u8, weight: u32) -> u32 {
     if 16 < old {
         return 1;
     }
-    if HEAVIEST < weight {
-        return 1;
-    }
-    let rest = weight + ((degree as u32) + 1) * FAILURE;
+    let rest = (weight as u32) + ((degree as u32) + 1) * (FAILURE as u32);
     if left & (used ^ 65535) == 0 && 0 < old {
         return rest / old;
     }
@@ -213,7 +209,14 @@ fn score(word: u16, used: u16, degree: u8, weight: u32) -> u32 {
 }
 
 // The term with the highest score among those that stand for their group; 255 where all are settled.
-fn choose(p: Parsed, decided: [u8; 256], o: Outcome, weights: [u32; 128]) -> usize
+fn choose<'a>(
+    p: Parsed,
+    decided: [u8; 256],
+    labels: &'a [u8; 128],
+    words: &'a [u16; 128],
+    degree: &'a [u8; 128],
+    weights: [u16; 128],
+) -> usize
     requires { ⌜ Searchable p ⌝ }
 {
     let used = used_words(p, decided);
@@ -221,13 +224,8 @@ fn choose(p: Parsed, decided: [u8; 256], o: Outcome, weights: [u32; 128]) -> usi
     let mut high: u32 = 0;
     let mut i: usize = 0;
     while i < p.terms {
-        if decided[i] == 255 && wide(o.labels[i]) == i {
-            let n = score(
-                o.struck[i],
-                word_of(used, p.sort[i]),
-                o.degree[i],
-                weights[i],
-            );
+        if decided[i] == 255 && wide(labels[i]) == i {
+            let n = score(words[i], word_of(used, p.sort[i]), degree[i], weights[i]);
             if high < n {
                 best = i;
                 high = n;
@@ -239,7 +237,7 @@ fn choose(p: Parsed, decided: [u8; 256], o: Outcome, weights: [u32; 128]) -> usi
 }
 
 // The weights with a share taken off each.
-fn faded(weights: [u32; 128]) -> [u32; 128] {
+fn faded(weights: [u16; 128]) -> [u16; 128] {
     let mut less = weights;
     let mut k: usize = 0;
     while k < 128 {
@@ -250,7 +248,7 @@ fn faded(weights: [u32; 128]) -> [u32; 128] {
 }
 
 // The weights with one more failure of a group; what failed lately counts most.
-fn heavier(weights: [u32; 128], group: u8) -> [u32; 128] {
+fn heavier(weights: [u16; 128], group: u8) -> [u16; 128] {
     let g = wide(group);
     let mut more = faded(weights);
     if g < 128 {
@@ -270,7 +268,7 @@ fn branch(
     decided: [u8; 256],
     words: [u16; 128],
     term: usize,
-    weights: [u32; 128],
+    weights: [u16; 128],
 ) -> Step
     requires { ⌜ Searchable p ⌝ }
     requires { ⌜ Small p (at sizes) ⌝ }
@@ -298,7 +296,7 @@ fn branch(
 }
 
 // A node that is dead or found.
-fn leaf(dead: bool, found: bool, codes: [u8; 256], weights: [u32; 128]) -> Step
+fn leaf(dead: bool, found: bool, codes: [u8; 256], weights: [u16; 128]) -> Step
     ensures { λ r. ⌜ (r .dead ≡ dead) × (r .found ≡ found) × (r .codes ≡ codes) ⌝ }
 {
     Step {
@@ -315,33 +313,46 @@ fn leaf(dead: bool, found: bool, codes: [u8; 256], weights: [u32; 128]) -> Step
 }
 
 // The codes of a given term that are worth trying.
-pub fn plan(p: Parsed, sizes: [u8; 8], decided: [u8; 256], term: usize, weights: [u32; 128]) -> Step
+pub fn plan(p: Parsed, sizes: [u8; 8], decided: [u8; 256], term: usize, weights: [u16; 128]) -> Step
     requires { ⌜ Searchable p ⌝ }
     requires { ⌜ Small p (at sizes) ⌝ }
     requires { ⌜ (term < p .terms) × (at decided term ≡ undecided) ⌝ }
     ensures { λ r. ⌜ Planned (view p) (at sizes) (at decided) (r .dead) term (r .size) (r .word) (r .fresh) (r .used) ⌝ }
 {
-    let o = propagate::propagate(p, sizes, decided);
+    let k = propagate::begin(p);
+    let o = propagate::propagate(p, sizes, decided, &k.labels, &k.words, &k.marks);
     if o.dead {
         return leaf(true, false, decided, weights);
     }
-    let words = o.struck;
+    let words = o.words;
     branch(p, sizes, decided, words, term, weights)
 }
 
-// One node: propagate; else a term to branch on; where all are settled, the test of their codes.
-fn node(p: Parsed, sizes: [u8; 8], decided: [u8; 256], weights: [u32; 128]) -> Step
+// One node, from what propagation found out: where that is no conflict, a term to branch on; where all are settled, the test of their
+// codes.
+fn node<'a>(
+    p: Parsed,
+    sizes: [u8; 8],
+    decided: [u8; 256],
+    dead: bool,
+    group: u8,
+    labels: &'a [u8; 128],
+    struck: &'a [u16; 128],
+    degree: &'a [u8; 128],
+    weights: [u16; 128],
+) -> Step
     requires { ⌜ Searchable p ⌝ }
     requires { ⌜ Small p (at sizes) ⌝ }
+    requires { ⌜ (dead ≡ true → Dead (view p) (at sizes) (at decided)) ⌝ }
+    requires { ⌜ Knows (view p) (at sizes) (at decided) (now struck) ⌝ }
     ensures { λ r. ⌜ Node (view p) (at sizes) (at decided) (r .dead) (r .found) (at (r .codes)) (r .term) (r .size) (r .word) (r .fresh) (r .used) ⌝ }
 {
-    let o = propagate::propagate(p, sizes, decided);
     let none = [0u8; 256];
-    if o.dead {
-        return leaf(true, false, none, heavier(weights, o.group));
+    if dead {
+        return leaf(true, false, none, heavier(weights, group));
     }
-    let words = o.struck;
-    let term = choose(p, decided, o, weights);
+    let words = *struck;
+    let term = choose(p, decided, labels, struck, degree, weights);
     if term < p.terms {
         if decided[term] == 255 {
             return branch(p, sizes, decided, words, term, weights);
@@ -359,13 +370,33 @@ fn node(p: Parsed, sizes: [u8; 8], decided: [u8; 256], weights: [u32; 128]) -> S
     leaf(true, false, codes, weights)
 }
 
-// Consistent codes at these sizes that keep to the decided ones, or that there are none.
-pub fn solve(p: Parsed, sizes: [u8; 8], decided: [u8; 256], weights: [u32; 128]) -> Solution
+// Consistent codes at these sizes that keep to the decided ones, or that there are none; from what is known already.
+fn descend<'a>(
+    p: Parsed,
+    sizes: [u8; 8],
+    decided: [u8; 256],
+    labels: &'a [u8; 128],
+    words: &'a [u16; 128],
+    marks: &'a [u64; 256],
+    weights: [u16; 128],
+) -> Solution
     requires { ⌜ Searchable p ⌝ }
     requires { ⌜ Small p (at sizes) ⌝ }
+    requires { ⌜ Knowing (view p) (at sizes) (at decided) (now labels) (now words) (now marks) ⌝ }
     ensures { λ r. ⌜ Solved (view p) (at sizes) (at decided) (r .found) (at (r .codes)) ⌝ }
 {
-    let n = node(p, sizes, decided, weights);
+    let o = propagate::propagate(p, sizes, decided, labels, words, marks);
+    let n = node(
+        p,
+        sizes,
+        decided,
+        o.dead,
+        o.group,
+        &o.labels,
+        &o.words,
+        &o.degree,
+        weights,
+    );
     let codes = n.codes;
     let mut learnt = n.weights;
     if n.dead {
@@ -391,7 +422,7 @@ pub fn solve(p: Parsed, sizes: [u8; 8], decided: [u8; 256], weights: [u32; 128])
     while v < size {
         if worth(size, word, first, flags, v) {
             let next = decide(decided, term, v);
-            let r = solve(p, sizes, next, learnt);
+            let r = descend(p, sizes, next, &o.labels, &o.words, &o.marks, learnt);
             if r.found {
                 return r;
             }
@@ -405,4 +436,14 @@ pub fn solve(p: Parsed, sizes: [u8; 8], decided: [u8; 256], weights: [u32; 128])
         codes,
         weights: learnt,
     }
+}
+
+// Consistent codes at these sizes that keep to the decided ones, or that there are none.
+pub fn solve(p: Parsed, sizes: [u8; 8], decided: [u8; 256], weights: [u16; 128]) -> Solution
+    requires { ⌜ Searchable p ⌝ }
+    requires { ⌜ Small p (at sizes) ⌝ }
+    ensures { λ r. ⌜ Solved (view p) (at sizes) (at decided) (r .found) (at (r .codes)) ⌝ }
+{
+    let k = propagate::begin(p);
+    descend(p, sizes, decided, &k.labels, &k.words, &k.marks, weights)
 }

@@ -5,8 +5,8 @@ use borrow.Author.Needs.{needs}
 use Rattle.propagate.proofs.round.Statement.{statement}
 use Rattle.propagate.proofs.round.Tie as tie
 
-join-congruent-requires : tie.Need-join-congruent-requires
-join-congruent-requires c κs = search needs
+join-moved-requires : tie.Need-join-moved-requires
+join-moved-requires c κs = search needs
 
 join-singles-requires : tie.Need-join-singles-requires
 join-singles-requires c κs = search needs
@@ -17,18 +17,21 @@ strike-marked-requires c κs = search needs
 conflict-requires : tie.Need-conflict-requires
 conflict-requires c κs = search needs
 
+said-requires : tie.Need-said-requires
+said-requires c κs = search needs
+
 returns : tie.Need-returns
 returns c =
-    chain (step (λ a l k. l .congruent) (c .before .before .before .before .before .before .before .before .before .before .before .before .join-congruent .ensures))
-    (chain (step (λ a l k. l .small) (c .before .before .before .before .before .before .before .before .join-singles .ensures))
-    (step (λ a l k. record { small = l .small; marks = k .marks }) (in-words (c .before .before .before .before .strike-marked .ensures))))
+    chain (c .before .before .before .before .before .before .before .before .before .before .before .before .before .join-moved .ensures)
+    (chain (step (λ a l k. l .small) (c .before .before .before .before .before .before .before .before .before .join-singles .ensures))
+    (step (λ a l k. record { small = l .small; marks = k .marks }) (in-words (c .before .before .before .before .before .strike-marked .ensures))))
 
 mark-arguments-requires : tie.Need-mark-arguments-requires
 mark-arguments-requires c κs = search needs
 
 returns-2 : tie.Need-returns-2
 returns-2 c =
-    chain (step (λ a l k. l .congruent) (c .before .before .before .before .before .before .before .before .before .before .before .before .before .before .before .join-congruent .ensures))
+    chain (c .before .before .before .before .before .before .before .before .before .before .before .before .before .before .before .join-moved .ensures)
     (chain (step (λ a l k. l .small) (c .before .before .before .before .before .before .before .before .before .before .before .join-singles .ensures))
     (chain (step (λ a l k. record { small = l .small; marks = k .marks }) (in-words {w′ = c .before .before .before .before .before .before .before .strike-marked .last .0} (c .before .before .before .before .before .before .before .strike-marked .ensures)))
     (step (λ a l k. record { lawful = l; labels = k .labels; words = k .words }) (in-marks (c .before .mark-arguments .ensures)))))
@@ -38,7 +41,7 @@ strike-crowds-requires c κs = search needs
 
 returns-3 : tie.Need-returns-3
 returns-3 c =
-    chain (step (λ a l k. l .congruent) (c .before .before .before .before .before .before .before .before .before .before .before .before .before .before .before .before .before .before .before .join-congruent .ensures))
+    chain (c .before .before .before .before .before .before .before .before .before .before .before .before .before .before .before .before .before .before .before .join-moved .ensures)
     (chain (step (λ a l k. l .small) (c .before .before .before .before .before .before .before .before .before .before .before .before .before .before .before .join-singles .ensures))
     (chain (step (λ a l k. record { small = l .small; marks = k .marks }) (in-words {w′ = c .before .before .before .before .before .before .before .before .before .before .before .strike-marked .last .0} (c .before .before .before .before .before .before .before .before .before .before .before .strike-marked .ensures)))
     (chain (step (λ a l k. record { lawful = l; labels = k .labels; words = k .words }) (in-marks (c .before .before .before .before .before .mark-arguments .ensures)))
@@ -48,10 +51,11 @@ pub round-spec : {M : Type 1} → statement M
 round-spec =
     tie.close
     (tie.spec
-    join-congruent-requires
+    join-moved-requires
     join-singles-requires
     strike-marked-requires
     conflict-requires
+    said-requires
     returns
     mark-arguments-requires
     returns-2

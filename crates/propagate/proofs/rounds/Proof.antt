@@ -4,17 +4,17 @@ use borrow.Author.Tests.{ltb-true}
 use Rattle.knowledge.specs.Knows.{Kept, Knows}
 use Rattle.knowledge.proofs.Laws.{stay, chain}
 use Rattle.rules.specs.Reasons.{Lawful}
-use borrow.Author.Needs.{needs}
 use native.Mathlib.Omega.{arith}
+use borrow.Author.Needs.{needs}
 use Rattle.propagate.proofs.rounds.Statement.{statement}
 use Rattle.propagate.proofs.rounds.Tie as tie
 
 abbrev Inv-loop : tie.InvT-loop
-Inv-loop labels₀ words₀ marks₀ symbol arg0 arg1 sort n news₀ done₀ labels words marks news done =
+Inv-loop labels₀ words₀ marks₀ symbol arg0 arg1 sort n fresh₀ news₀ done₀ labels words marks fresh news done =
     (n ≤ 128) × (done ≤ 512) × Kept (Lawful n symbol arg0 arg1) (Knows labels₀ words₀ marks₀) (Knows labels words marks)
 
 abbrev μ-loop : tie.MeasureT-loop
-μ-loop labels₀ words₀ marks₀ symbol arg0 arg1 sort n news₀ done₀ labels words marks news done = 512 - done
+μ-loop labels₀ words₀ marks₀ symbol arg0 arg1 sort n fresh₀ news₀ done₀ labels words marks fresh news done = 512 - done
 
 loop-holds : tie.Need-loop-holds Inv-loop μ-loop
 loop-holds c = (omega arith, omega arith, stay)
@@ -29,7 +29,7 @@ loop-less : tie.Need-loop-less Inv-loop μ-loop
 loop-less c = omega (arith, ltb-true)
 
 loop-again : tie.Need-loop-again Inv-loop μ-loop
-loop-again c = (omega arith, omega (arith, ltb-true), chain (c .before .before .before .before .before .before .loop .inv .2) (c .round .ensures))
+loop-again c = (omega arith, omega (arith, ltb-true), chain (c .before .before .before .before .before .before .before .loop .inv .2) (c .round .ensures))
 
 returns : tie.Need-returns Inv-loop μ-loop
 returns c = c .before .before .loop .inv .2

@@ -1,9 +1,13 @@
 -- `propagate::start_word` meets its contract.
 use Rattle.knowledge.proofs.Laws.{step, chain}
-use borrow.Author.Needs.{needs}
+use Rattle.propagate.proofs.Laws.{group-free}
 use native.Mathlib.Omega.{arith}
+use borrow.Author.Needs.{needs}
 use Rattle.propagate.proofs.start_word.Statement.{statement}
 use Rattle.propagate.proofs.start_word.Tie as tie
+
+label-requires : tie.Need-label-requires
+label-requires c κs = search needs
 
 element-copy-out-wide : tie.Need-element-copy-out-wide
 element-copy-out-wide c = search needs
@@ -22,8 +26,8 @@ element-copy-out-code c = search needs
 
 returns : tie.Need-returns
 returns c =
-    let i = c .before .before .before .before .before .before .before .args .i in
-    step (λ a f w. c .before .before .before .beyond .ensures .beyond (a i) (f .small i) (rw (c .before .before .before .before .wide .ensures .0) (f .range i (omega arith)))) (c .before .before .strike .ensures)
+    let i = c .before .before .before .before .before .before .before .before .args .i in
+    step (λ a f w. group-free _ i (c .before .before .before .beyond .result) a (c .before .before .before .before .before .before .before .label .ensures .means a (f .labels)) (c .before .before .before .beyond .ensures .beyond (a i) (f .small i) (rw (c .before .before .before .before .wide .ensures .0) (f .range i (omega arith))))) (c .before .before .strike .ensures)
 
 all-but-requires : tie.Need-all-but-requires
 all-but-requires c κs = search needs
@@ -33,14 +37,15 @@ strike-requires-2 c κs = search needs
 
 returns-2 : tie.Need-returns-2
 returns-2 c =
-    let i = c .before .before .before .before .before .before .before .before .before .before .args .i in
-    chain (step (λ a f w. c .before .before .before .before .before .before .beyond .ensures .beyond (a i) (f .small i) (rw (c .before .before .before .before .before .before .before .wide .ensures .0) (f .range i (omega arith)))) (c .before .before .before .before .before .strike .ensures))
-    (step (λ a f w b. c .before .all-but .ensures (rw (f .fixed i (omega arith) (c .before .before .before .if1 .left)) at b)) (c .strike2 .ensures))
+    let i = c .before .before .before .before .before .before .before .before .before .before .before .args .i in
+    chain (step (λ a f w. group-free _ i (c .before .before .before .before .before .before .beyond .result) a (c .before .before .before .before .before .before .before .before .before .before .label .ensures .means a (f .labels)) (c .before .before .before .before .before .before .beyond .ensures .beyond (a i) (f .small i) (rw (c .before .before .before .before .before .before .before .wide .ensures .0) (f .range i (omega arith))))) (c .before .before .before .before .before .strike .ensures))
+    (step (λ a f w. group-free _ i (c .before .all-but .result) a (c .before .before .before .before .before .before .before .before .before .before .label .ensures .means a (f .labels)) (λ b. c .before .all-but .ensures (rw (f .fixed i (omega arith) (c .before .before .before .if1 .left)) at b))) (c .strike2 .ensures))
 
 pub start-word-spec : {M : Type 1} → statement M
 start-word-spec =
     tie.close
     (tie.spec
+    label-requires
     element-copy-out-wide
     wide-requires
     beyond-requires

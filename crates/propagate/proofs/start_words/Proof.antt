@@ -9,10 +9,10 @@ use Rattle.propagate.proofs.start_words.Statement.{statement}
 use Rattle.propagate.proofs.start_words.Tie as tie
 
 abbrev Inv-loop : tie.InvT-loop
-Inv-loop words₀ sort sizes decided n i₀ words i = (n ≤ 128) × (i ≤ n) × Kept (Fixed n sort sizes decided) (Words words₀) (Words words)
+Inv-loop words₀ labels sort sizes decided n i₀ words i = (n ≤ 128) × (i ≤ n) × Kept (Fixed n labels sort sizes decided) (Words words₀) (Words words)
 
 abbrev μ-loop : tie.MeasureT-loop
-μ-loop words₀ sort sizes decided n i₀ words i = n - i
+μ-loop words₀ labels sort sizes decided n i₀ words i = n - i
 
 loop-holds : tie.Need-loop-holds Inv-loop μ-loop
 loop-holds c = (omega arith, omega arith, stay)

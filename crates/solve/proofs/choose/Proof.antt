@@ -5,10 +5,10 @@ use Rattle.solve.proofs.choose.Statement.{statement}
 use Rattle.solve.proofs.choose.Tie as tie
 
 abbrev Inv-loop : tie.InvT-loop
-Inv-loop p decided o weights used best₀ high₀ i₀ best high i = i ≤ p .terms
+Inv-loop labels words degree p decided weights used best₀ high₀ i₀ best high i = i ≤ p .terms
 
 abbrev μ-loop : tie.MeasureT-loop
-μ-loop p decided o weights used best₀ high₀ i₀ best high i = p .terms - i
+μ-loop labels words degree p decided weights used best₀ high₀ i₀ best high i = p .terms - i
 
 used-words-requires : tie.Need-used-words-requires Inv-loop μ-loop
 used-words-requires c κs = search needs

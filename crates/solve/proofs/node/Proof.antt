@@ -4,9 +4,6 @@ use borrow.Author.Needs.{needs}
 use Rattle.solve.proofs.node.Statement.{statement}
 use Rattle.solve.proofs.node.Tie as tie
 
-propagate-requires : tie.Need-propagate-requires
-propagate-requires c κs = search needs
-
 heavier-requires : tie.Need-heavier-requires
 heavier-requires c κs = search needs
 
@@ -14,9 +11,7 @@ leaf-requires : tie.Need-leaf-requires
 leaf-requires c κs = search needs
 
 returns : tie.Need-returns
-returns c =
-    let m = c .before .before in
-    dead-node _ _ _ _ _ _ _ _ _ _ _ (c .leaf .ensures .0) (c .leaf .ensures .1) (m .before .propagate .ensures .dead (m .if1 .taken))
+returns c = dead-node _ _ _ _ _ _ _ _ _ _ _ (c .leaf .ensures .0) (c .leaf .ensures .1) (c .before .before .before .pre .1 .1 .0 (c .before .before .if1 .taken))
 
 choose-requires : tie.Need-choose-requires
 choose-requires c κs = search needs
@@ -26,8 +21,8 @@ array-read-if3 c = search needs
 
 branch-requires : tie.Need-branch-requires
 branch-requires c κs =
-    let s = c .before .before .before .before .before .before .before in
-    (s .pre .0, (s .pre .1, (c .before .before .before .before .before .before .propagate .ensures .struck, (c .before .if2 .taken, c .if3 .taken))))
+    let s = c .before .before .before .before .before .before in
+    (s .pre .0, (s .pre .1 .0, (s .pre .1 .1 .1, (c .before .if2 .taken, c .if3 .taken))))
 
 returns-2 : tie.Need-returns-2
 returns-2 c =
@@ -39,9 +34,8 @@ settle-requires c κs = search needs
 
 branch-requires-2 : tie.Need-branch-requires-2
 branch-requires-2 c κs =
-    let m = c .before .before in
-    let s = m .before .before .before .before .before .before .before in
-    (s .pre .0, (s .pre .1, (m .before .before .before .before .before .before .propagate .ensures .struck, (c .if4 .taken, m .settle .ensures .pending (c .if4 .taken)))))
+    let s = c .before .before .before .before .before .before .before .before in
+    (s .pre .0, (s .pre .1 .0, (s .pre .1 .1 .1, (c .if4 .taken, c .before .before .settle .ensures .pending (c .if4 .taken)))))
 
 returns-3 : tie.Need-returns-3
 returns-3 c =
@@ -50,38 +44,32 @@ returns-3 c =
 
 consistent-requires : tie.Need-consistent-requires
 consistent-requires c κs =
-    let m = c .before .before .before in
-    let s = m .before .before .before .before .before .before .before in
-    (s .pre .0, (s .pre .1, m .settle .ensures .read (c .before .if4 .left) .rest))
+    let s = c .before .before .before .before .before .before .before .before .before in
+    (s .pre .0, (s .pre .1 .0, c .before .before .before .settle .ensures .read (c .before .if4 .left) .rest))
 
 leaf-requires-2 : tie.Need-leaf-requires-2
 leaf-requires-2 c κs = search needs
 
 returns-4 : tie.Need-returns-4
 returns-4 c =
-    let e = c .before .before .before .before in
-    let m = e .before .before in
-    let k = m .before .before .before .before .before .before in
+    let s = c .before .before .before .before .before .before .before .before .before .before .before .before in
     rw (c .leaf2 .ensures .2)
     (found-node _ _ _ _ _ _ _ _ _ _ _ (c .leaf2 .ensures .0) (c .leaf2 .ensures .1) (c .before .before .consistent .ensures .yes (c .before .if5 .taken))
-    (read-extends _ _ _ (k .before .pre .0 .sorted) (k .before .pre .1) _ (k .propagate .ensures .struck) _ (m .settle .ensures .read (e .if4 .left))))
+    (read-extends _ _ _ (s .pre .0 .sorted) (s .pre .1 .0) _ (s .pre .1 .1 .1) _ (c .before .before .before .before .before .before .settle .ensures .read (c .before .before .before .before .if4 .left))))
 
 leaf-requires-3 : tie.Need-leaf-requires-3
 leaf-requires-3 c κs = search needs
 
 returns-5 : tie.Need-returns-5
 returns-5 c =
-    let e = c .before .before .before .before in
-    let m = e .before .before in
-    let k = m .before .before .before .before .before .before in
+    let s = c .before .before .before .before .before .before .before .before .before .before .before .before in
     dead-node _ _ _ _ _ _ _ _ _ _ _ (c .leaf3 .ensures .0) (c .leaf3 .ensures .1)
-    (read-dead _ _ _ (k .before .pre .0 .sorted) (k .before .pre .1) _ (k .propagate .ensures .struck) _ (m .settle .ensures .read (e .if4 .left)) (c .before .before .consistent .ensures .no (c .before .if5 .left)))
+    (read-dead _ _ _ (s .pre .0 .sorted) (s .pre .1 .0) _ (s .pre .1 .1 .1) _ (c .before .before .before .before .before .before .settle .ensures .read (c .before .before .before .before .if4 .left)) (c .before .before .consistent .ensures .no (c .before .if5 .left)))
 
 pub node-spec : {M : Type 1} → statement M
 node-spec =
     tie.close
     (tie.spec
-    propagate-requires
     heavier-requires
     leaf-requires
     returns
