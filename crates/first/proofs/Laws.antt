@@ -11,6 +11,7 @@ use Rattle.logic.specs.Structure.{at}
 use Rattle.logic.specs.Order.{NotAfter}
 use Rattle.logic.specs.Problem.{Problem, WellSorted, Consistent, Extends, Dead, undecided}
 use Rattle.logic.proofs.Decided.{at-set-same, at-set-other, decide-more, decide-less}
+use Rattle.codes.specs.Tested.{Padded}
 use Rattle.solve.specs.Solved.{Branches, Solved}
 use Rattle.solve.proofs.Laws.{Tried}
 use Rattle.first.specs.First.{FirstCodes, Lowest}
@@ -54,6 +55,10 @@ lowest-zero P sizes q c term e con ext = record { consistent = con; extends = ex
 
 pub lowest-dead : (P : Problem) (sizes q c : ℕ → ℕ) (term : ℕ) → Dead P sizes q → Consistent P sizes c → Extends P q c → Lowest P sizes q c term
 lowest-dead P sizes q c term dead con ext = absurd (dead c con ext)
+
+-- a code of a term changes nothing past the terms
+pub padded-set : (P : Problem) (codes : List ℕ) (i v : ℕ) → i < P .terms → Padded P (at codes) → Padded P (at (set codes i v))
+padded-set P codes i v h k j l = at-set-other codes i v j (λ e. absurd (omega arith)) ∙ k j l
 
 -- the model while the terms below n are as low as they can be, and decided
 pub record Lowered (P : Problem) (sizes : ℕ → ℕ) (model decided : List ℕ) (n : ℕ) : Type 0 where
