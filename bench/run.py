@@ -4,7 +4,7 @@
 Builds the find program and the static library, runs both on the sheets of bench/sheets, on load sheets and on random sheets, checks
 each answer against bench/expected.txt where there is one, and prints per sheet and per family the time of the program, the microseconds
 per call in process and, where cvc5 and z3 are installed, their time on the same sheet in the same run and how many times longer that
-is. Writes target/bench/times.png, a plot of time against the number of terms, where matplotlib is there.
+is; then whether the deepest sheet runs on a small stack. Writes target/bench/times.png, a plot of time against the number of terms, where matplotlib is there.
 """
 import argparse
 import pathlib
@@ -56,6 +56,12 @@ def ours(path, limit):
     return line, seconds, float(loop[1])
 
 
+def deepest():
+    """What the program says of the deepest sheet on a stack of 1,000 KB."""
+    done = subprocess.run(["bash", "-c", "ulimit -s 1000 && exec target/bin/find"], input=sheets.deep_sheet(), capture_output=True)
+    return done.stdout.decode().split("\n")[0] or "no answer"
+
+
 def shown(seconds, limit):
     return f"over {limit} s" if seconds is None else f"{seconds * 1e3:.3f} ms"
 
@@ -102,10 +108,15 @@ def main():
         mine = [r[2] if r[2] is not None else options.limit * 1e6 for r in rows if r[0] == family]
         others = [[options.limit if r[3][s] is None else r[3][s] for r in rows if r[0] == family] for s in solvers]
         print(f"| {family} | {len(mine)} | {statistics.median(mine):.1f} µs | {max(mine):.1f} µs |" + "".join(f" {statistics.median(o) * 1e3:.1f} ms |" for o in others))
+    for low, high in ((1, 9), (10, 40), (41, 128)):
+        mine = [r[2] if r[2] is not None else options.limit * 1e6 for r in rows if low <= r[1] <= high]
+        if mine:
+            print(f"\n{low} to {high} terms: {len(mine)} sheets, median {statistics.median(mine):.1f} µs in process, largest {max(mine):.1f} µs")
     for title, names in (("wrong", wrong), (f"over {options.limit} s", late), ("slower than a solver", slower)):
         print(f"\n{title}: {len(names)}")
         for entry in names:
             print(f"  {entry}")
+    print(f"\nthe deepest sheet on a stack of 1,000 KB: {deepest()}")
     plot(rows, solvers, options.limit)
     sys.exit(bool(wrong))
 

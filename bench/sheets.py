@@ -51,6 +51,19 @@ def load_sheet(state, k, n, m):
     return out + record(6, k)
 
 
+def deep_sheet():
+    """The deepest search: every cell of a table of 12 rows and 11 columns but the last is free, and so is decided one after the other."""
+    rows, columns = 12, 11
+    out = record(1, rows, 16) + record(1, columns, 16) + record(1, 2, 16)
+    out += record(2, 0) * rows + record(2, 1) * columns + record(2, 2, 0, 1)
+    out += b"".join(record(3, i) for i in range(rows + columns))
+    cells = [(i, rows + j) for i in range(rows) for j in range(columns)][: 128 - rows - columns]
+    out += b"".join(record(3, rows + columns, i, j) for i, j in cells)
+    out += b"".join(record(5, i, j) for i in range(rows) for j in range(i))
+    out += b"".join(record(5, rows + i, rows + j) for i in range(columns) for j in range(i))
+    return out + record(6, 48)
+
+
 def random_sheet(seed, sorts, terms, literals, differ):
     """A random sheet: constants, unary and binary symbols over random sorts, terms over earlier terms, statements of one sort."""
     rng = random.Random(seed)
