@@ -167,9 +167,12 @@ pairs-counted n symbol arg0 arg1 l w list firsts seconds k x y few of first seco
 pub settled-counted : (n : ℕ) (symbol arg0 arg1 l w list : List ℕ) (k r : ℕ) → Means (λ c. Small c × (Labels l c × Words w c)) (Counted list k r) → Means (Settled n symbol arg0 arg1 l w) (Counted list k r)
 settled-counted n symbol arg0 arg1 l w list k r p = record { means = λ c s. p .means c (s .lawful .small, (s .labels, s .words)) }
 
--- no codes are known of a crowd with more terms than what counts them
-pub crowd-none : (n : ℕ) (symbol arg0 arg1 l w m : List ℕ) (i : ℕ) (chosen : List ℕ) (k r : ℕ) (c : ℕ → ℕ) → Gathered l w m i chosen k → Means (Settled n symbol arg0 arg1 l w) (Counted chosen k r) → r < k → Known n symbol arg0 arg1 l w m c → ⊥
-crowd-none n symbol arg0 arg1 l w m i chosen k r c g counted more known =
+-- a crowd has one symbol, and no codes are known of one with more terms than what counts them
+pub crowd-symbol : {n : ℕ} {symbol l w m : List ℕ} {f i : ℕ} {chosen : List ℕ} {k : ℕ} → Gathered n symbol l w m f i chosen k → OneSymbol n symbol chosen k
+crowd-symbol g = record { terms = g .terms; symbols = λ a b ha hb. g .symbols a ha ∙ sym (g .symbols b hb) }
+
+pub crowd-none : (n : ℕ) (symbol arg0 arg1 l w m : List ℕ) (f i : ℕ) (chosen : List ℕ) (k r : ℕ) (c : ℕ → ℕ) → Gathered n symbol l w m f i chosen k → Means (Settled n symbol arg0 arg1 l w) (Counted chosen k r) → r < k → Known n symbol arg0 arg1 l w m c → ⊥
+crowd-none n symbol arg0 arg1 l w m f i chosen k r c g counted more known =
     let p = counted .means c (record { lawful = known .lawful; labels = known .knows .labels; words = known .knows .words }) in
     let apart = g .apart .means c (record { small = known .lawful .small; knows = known .knows }) in
     let few : k ≤ r = pigeon r k (p .key) (p .below) (λ a b ab bk e. apart a b ab bk (p .same a b (omega arith) bk e)) in
@@ -204,23 +207,40 @@ bit-and : (a b v : ℕ) → Bit (bitAnd a b) v → Bit a v × Bit b v
 bit-and a b v h = both (a / 2 ^ v) (b / 2 ^ v) (rw (and-shr a b v) at h)
 
 -- the empty crowd, a term that is passed over, the last of the terms, and one that is taken
-pub nobody : (l w m : List ℕ) → Gathered l w m 0 (replicate 128 0) 0
-nobody l w m = record { length = refl; few = omega arith; apart = record { means = λ c h a b ab bk. absurd (omega arith) } }
+pub nobody : (n : ℕ) (symbol l w m : List ℕ) (f : ℕ) → Gathered n symbol l w m f 0 (replicate 128 0) 0
+nobody n symbol l w m f =
+    record {
+      length = refl;
+      few = omega arith;
+      terms = λ a h. absurd (omega arith);
+      symbols = λ a h. absurd (omega arith);
+      apart = record { means = λ c h a b ab bk. absurd (omega arith) };
+    }
 
-pub passed : {l w m : List ℕ} {i : ℕ} {chosen : List ℕ} {k : ℕ} → Gathered l w m i chosen k → Gathered l w m (i + 1) chosen k
-passed g = let few = g .few in record { length = g .length; few = omega arith; apart = g .apart }
+pub passed : {n : ℕ} {symbol l w m : List ℕ} {f i : ℕ} {chosen : List ℕ} {k : ℕ} → Gathered n symbol l w m f i chosen k → Gathered n symbol l w m f (i + 1) chosen k
+passed g = let few = g .few in record { length = g .length; few = omega arith; terms = g .terms; symbols = g .symbols; apart = g .apart }
 
-pub ended : {l w m : List ℕ} {i j : ℕ} {chosen : List ℕ} {k : ℕ} → i ≡ j → Gathered l w m i chosen k → Gathered l w m j chosen k
-ended e g = let few = g .few in record { length = g .length; few = omega arith; apart = g .apart }
+pub ended : {n : ℕ} {symbol l w m : List ℕ} {f i j : ℕ} {chosen : List ℕ} {k : ℕ} → i ≡ j → Gathered n symbol l w m f i chosen k → Gathered n symbol l w m f j chosen k
+ended e g = let few = g .few in record { length = g .length; few = omega arith; terms = g .terms; symbols = g .symbols; apart = g .apart }
 
-pub taken : (l w m : List ℕ) (i : ℕ) (chosen : List ℕ) (k : ℕ) → i < 128 → Gathered l w m i chosen k → Means (Held l w m) (Unlike chosen k i) → Gathered l w m (i + 1) (set chosen k i) (k + 1)
-taken l w m i chosen k hi g other =
+-- what holds of the first k and of the next holds of the first k + 1
+more : (P : ℕ → Type 0) (chosen : List ℕ) (k i : ℕ) → k < length chosen → ((a : ℕ) → a < k → P (at chosen a)) → P i → (a : ℕ) → a < k + 1 → P (at (set chosen k i) a)
+more P chosen k i short all one a h =
+    elim (compare a k) [
+      | inl l ↦ rw (at-set-other chosen k i a (λ e. absurd (omega arith))) (all a l)
+      | inr d ↦ elim d [ inl e ↦ rw (e, at-set-same chosen k i short) one | inr g ↦ absurd (omega arith) ]
+    ]
+
+pub taken : (n : ℕ) (symbol l w m : List ℕ) (f i : ℕ) (chosen : List ℕ) (k : ℕ) → n ≤ 128 → i < n → Gathered n symbol l w m f i chosen k → at symbol i ≡ f → Means (Held l w m) (Unlike chosen k i) → Gathered n symbol l w m f (i + 1) (set chosen k i) (k + 1)
+taken n symbol l w m f i chosen k hn hi g e other =
     let few = g .few in
     let len = g .length in
     let short : k < length chosen = omega arith in
     record {
       length = simp length-set len;
       few = omega arith;
+      terms = more (λ t. t < n) chosen k i short (g .terms) hi;
+      symbols = more (λ t. at symbol t ≡ f) chosen k i short (g .symbols) e;
       apart = record {
         means = λ c h a b ab hb q.
             let sa = at-set-other chosen k i a (λ z. absurd (omega arith)) in

@@ -1,5 +1,5 @@
--- A crowd: terms whose codes all differ, so that they are at most as many as the codes that they can have between them. How many those
--- are is said by numbers that tell the codes apart.
+-- A crowd: terms of one symbol whose codes all differ. They are at most as many as their arguments have pairs of codes, which is said by
+-- numbers that tell codes apart.
 use Prim.Native.Nat.{ℕ, zero, suc, _+_, _-_, _/_, _%_, _^_, _≤_, _<_}
 use mathlib.Core.Path.{_≡_}
 use mathlib.Core.List.{List}
@@ -31,10 +31,12 @@ Unlike chosen k i c = (a : ℕ) → a < k → c (at chosen a) ≡ c i → ⊥
 abbrev pub Apart : List ℕ → ℕ → (ℕ → ℕ) → Type 0
 Apart chosen k c = (a b : ℕ) → a < b → b < k → c (at chosen a) ≡ c (at chosen b) → ⊥
 
--- a crowd among the first i terms
-pub record Gathered (l w m : List ℕ) (i : ℕ) (chosen : List ℕ) (k : ℕ) : Type 0 where
+-- a crowd of the symbol f among the first i terms
+pub record Gathered (n : ℕ) (symbol l w m : List ℕ) (f i : ℕ) (chosen : List ℕ) (k : ℕ) : Type 0 where
   pub length : length chosen ≡ 128
   pub few : k ≤ i
+  pub terms : (a : ℕ) → a < k → at chosen a < n
+  pub symbols : (a : ℕ) → a < k → at symbol (at chosen a) ≡ f
   pub apart : Means (Held l w m) (Apart chosen k)
 
 -- numbers below r tell the codes of the first k of a list apart, so that there are at most r of these codes

@@ -1,5 +1,5 @@
-// R6 of propagation: terms whose codes all differ are at most as many as the codes that they can have between them. Terms of one symbol
-// have at most as many as their arguments have pairs of codes, and the arguments are counted the same way.
+// R6 of propagation: terms of one symbol whose codes all differ are at most as many as their arguments have pairs of codes. Arguments
+// that are terms of one symbol themselves are counted the same way.
 use knowledge::MOST;
 use knowledge::apart;
 use knowledge::label;
@@ -14,8 +14,8 @@ ghost use Rattle.knowledge.specs.Knows.{Labels, Words, Small, Means, Kept};
 ghost use Rattle.rules.specs.Reasons.{Settled};
 ghost use Rattle.crowd.specs.Crowd.{rank, Held, Known, Unlike, Gathered, Alike, Free, Counted, OneSymbol, Arguments};
 
-// How many levels of arguments are counted.
-const LEVELS: usize = 4;
+// How many levels of arguments are looked at below those of a crowd.
+const LEVELS: usize = 3;
 
 // Terms of one symbol whose codes all differ: the first of those that are chosen.
 struct Crowd {
@@ -54,12 +54,13 @@ fn grow<'a>(
     labels: &'a [u8; 128],
     marks: &'a [u64; 256],
     symbol: &'a [u8; 128],
+    n: usize,
     f: u8,
     i: usize,
 ) -> Crowd
-    requires { ⌜ i < 128 ⌝ }
-    requires { ⌜ Gathered (now labels) (now words) (now marks) i (g .chosen) (g .count) ⌝ }
-    ensures { λ r. ⌜ Gathered (now (labels .entry)) (now (words .entry)) (now (marks .entry)) (i + 1) (r .chosen) (r .count) ⌝ }
+    requires { ⌜ (n ≤ 128) × (i < n) ⌝ }
+    requires { ⌜ Gathered n (now symbol) (now labels) (now words) (now marks) f i (g .chosen) (g .count) ⌝ }
+    ensures { λ r. ⌜ Gathered n (now (symbol .entry)) (now (labels .entry)) (now (words .entry)) (now (marks .entry)) f (i + 1) (r .chosen) (r .count) ⌝ }
 {
     let e = symbol[i];
     if e != f {
@@ -71,10 +72,8 @@ fn grow<'a>(
         return g;
     }
     chosen[k] = i as u8;
-    Crowd {
-        chosen,
-        count: k + 1,
-    }
+    let count = k + 1;
+    Crowd { chosen, count }
 }
 
 // A crowd of a symbol, each term taken where it can be.
@@ -87,7 +86,7 @@ fn gather<'a>(
     f: u8,
 ) -> Crowd
     requires { ⌜ n ≤ 128 ⌝ }
-    ensures { λ r. ⌜ Gathered (now (labels .entry)) (now (words .entry)) (now (marks .entry)) n (r .chosen) (r .count) ⌝ }
+    ensures { λ r. ⌜ Gathered n (now (symbol .entry)) (now (labels .entry)) (now (words .entry)) (now (marks .entry)) f n (r .chosen) (r .count) ⌝ }
 {
     let mut g = Crowd {
         chosen: [0u8; 128],
@@ -95,7 +94,7 @@ fn gather<'a>(
     };
     let mut i: usize = 0;
     while i < n {
-        let next = grow(g, words, labels, marks, symbol, f, i);
+        let next = grow(g, words, labels, marks, symbol, n, f, i);
         g = next;
         i += 1;
     }
@@ -197,7 +196,30 @@ fn arguments<'a>(args: &'a [u8; 128], list: &'a [u8; 128], k: usize) -> [u8; 128
     r
 }
 
-// How many codes the first k of a list can have between them; those of one symbol at most as many as their arguments have pairs.
+// How many pairs of codes the arguments of the first k of a list, terms of one symbol, can have between them.
+fn pairs<'a>(
+    words: &'a [u16; 128],
+    labels: &'a [u8; 128],
+    symbol: &'a [u8; 128],
+    arg0: &'a [u8; 128],
+    arg1: &'a [u8; 128],
+    n: usize,
+    list: &'a [u8; 128],
+    k: usize,
+    levels: usize,
+) -> usize
+    requires { ⌜ (n ≤ 128) × (k ≤ 128) ⌝ }
+    requires { ⌜ OneSymbol n (now symbol) (now list) k ⌝ }
+    ensures { λ r. ⌜ Means (Settled n (now (symbol .entry)) (now (arg0 .entry)) (now (arg1 .entry)) (now (labels .entry)) (now (words .entry))) (Counted (now (list .entry)) k r) × (r ≤ 256) ⌝ }
+{
+    let firsts = arguments(arg0, list, k);
+    let seconds = arguments(arg1, list, k);
+    let x = reach(words, labels, symbol, arg0, arg1, n, &firsts, k, levels);
+    let y = reach(words, labels, symbol, arg0, arg1, n, &seconds, k, levels);
+    x * y
+}
+
+// How many codes the first k of a list can have between them, by their words or by their arguments.
 fn reach<'a>(
     words: &'a [u16; 128],
     labels: &'a [u8; 128],
@@ -219,16 +241,11 @@ fn reach<'a>(
     if !one_symbol(symbol, n, list, k) {
         return whole;
     }
-    let rest = levels - 1;
-    let firsts = arguments(arg0, list, k);
-    let seconds = arguments(arg1, list, k);
-    let x = reach(words, labels, symbol, arg0, arg1, n, &firsts, k, rest);
-    let y = reach(words, labels, symbol, arg0, arg1, n, &seconds, k, rest);
-    let pairs = x * y;
-    if pairs < whole { pairs } else { whole }
+    let both = pairs(words, labels, symbol, arg0, arg1, n, list, k, levels - 1);
+    if both < whole { both } else { whole }
 }
 
-// R6 of one symbol: more terms in its crowd than codes that they can have leave no code to a term i.
+// R6 of one symbol: more terms in its crowd than pairs of argument codes leave no code to a term i.
 fn strike_crowd<'a>(
     words: &mut [u16; 128],
     labels: &'a [u8; 128],
@@ -249,7 +266,7 @@ fn strike_crowd<'a>(
         return false;
     }
     let chosen = g.chosen;
-    if reach(words, labels, symbol, arg0, arg1, n, &chosen, k, LEVELS) < k {
+    if pairs(words, labels, symbol, arg0, arg1, n, &chosen, k, LEVELS) < k {
         return strike(words, i, 65535);
     }
     false
@@ -281,7 +298,7 @@ fn meet_symbol<'a>(
     strike_crowd(words, labels, marks, symbol, arg0, arg1, n, i)
 }
 
-// R6: a crowd with too few codes is a conflict.
+// R6: a crowd with too few pairs of argument codes is a conflict.
 pub fn strike_crowds<'a>(
     words: &mut [u16; 128],
     labels: &'a [u8; 128],

@@ -8,16 +8,16 @@ use Rattle.crowd.proofs.gather.Statement.{statement}
 use Rattle.crowd.proofs.gather.Tie as tie
 
 abbrev Inv-loop : tie.InvT-loop
-Inv-loop words labels marks symbol n f g₀ i₀ g i = (n ≤ 128) × (i ≤ n) × Gathered labels words marks i (g .chosen) (g .count)
+Inv-loop words labels marks symbol n f g₀ i₀ g i = (n ≤ 128) × (i ≤ n) × Gathered n symbol labels words marks f i (g .chosen) (g .count)
 
 abbrev μ-loop : tie.MeasureT-loop
 μ-loop words labels marks symbol n f g₀ i₀ g i = n - i
 
 loop-holds : tie.Need-loop-holds Inv-loop μ-loop
-loop-holds c = (omega arith, omega arith, nobody _ _ _)
+loop-holds c = (omega arith, omega arith, nobody _ _ _ _ _ _)
 
 grow-requires : tie.Need-grow-requires Inv-loop μ-loop
-grow-requires c κs = (omega arith, c .before .loop .inv .2)
+grow-requires c κs = ((omega arith, omega arith), c .before .loop .inv .2)
 
 add-i : tie.Need-add-i Inv-loop μ-loop
 add-i c = search needs

@@ -23,13 +23,13 @@ cast-chosen c = search needs
 array-write-chosen : tie.Need-array-write-chosen
 array-write-chosen c = search needs
 
-add-t20 : tie.Need-add-t20
-add-t20 c = search needs
+add-count : tie.Need-add-count
+add-count c = search needs
 
 returns-3 : tie.Need-returns-3
 returns-3 c =
     let s = c .before .before .before .before .before .before in
-    taken _ _ _ _ _ _ (s .pre .0) (s .pre .1) (c .before .unlike .ensures (not-false _ (c .if2 .left)))
+    taken _ _ _ _ _ _ _ _ _ (s .pre .0 .0) (s .pre .0 .1) (s .pre .1) (c .before .before .before .before .if1 .left) (c .before .unlike .ensures (not-false _ (c .if2 .left)))
 
 pub grow-spec : {M : Type 1} → statement M
 grow-spec =
@@ -41,5 +41,5 @@ grow-spec =
     returns-2
     cast-chosen
     array-write-chosen
-    add-t20
+    add-count
     returns-3)

@@ -1,5 +1,6 @@
 -- `crowd::strike_crowd` meets its contract.
-use Rattle.crowd.proofs.Laws.{crowd-none}
+use native.Mathlib.Omega.{arith}
+use Rattle.crowd.proofs.Laws.{crowd-symbol, crowd-none}
 use borrow.Author.Needs.{needs}
 use Rattle.crowd.proofs.strike_crowd.Statement.{statement}
 use Rattle.crowd.proofs.strike_crowd.Tie as tie
@@ -13,8 +14,8 @@ gather-requires c κs = search needs
 returns : tie.Need-returns
 returns c = search needs
 
-reach-requires : tie.Need-reach-requires
-reach-requires c κs = search needs
+pairs-requires : tie.Need-pairs-requires
+pairs-requires c κs = let g = c .before .before .before .before .gather .ensures in let few = g .few in ((omega arith, omega arith), crowd-symbol g)
 
 strike-requires : tie.Need-strike-requires
 strike-requires c κs = search needs
@@ -23,7 +24,7 @@ returns-2 : tie.Need-returns-2
 returns-2 c =
     let t = c .before .before in
     let r = t .before in
-    record { kept = λ x k v. absurd (crowd-none _ _ _ _ _ _ _ _ _ _ _ x (r .before .before .before .before .before .gather .ensures) (r .reach .ensures .0) (t .if2 .taken) k) }
+    record { kept = λ x k v. absurd (crowd-none _ _ _ _ _ _ _ _ _ _ _ _ x (r .before .before .before .before .before .gather .ensures) (r .pairs .ensures .0) (t .if2 .taken) k) }
 
 returns-3 : tie.Need-returns-3
 returns-3 c = search needs
@@ -35,7 +36,7 @@ strike-crowd-spec =
     element-copy-out-f
     gather-requires
     returns
-    reach-requires
+    pairs-requires
     strike-requires
     returns-2
     returns-3)
