@@ -1,18 +1,20 @@
--- Why a crowd is no greater than the number of pairs of argument codes: numbers that all differ are at most as many as their bound.
+-- Why a crowd is no greater than what its codes are counted by: numbers that all differ are at most as many as their bound. A list is
+-- counted by a common word, by one label, or, of terms of one symbol, by pairs of what counts their arguments.
 use Prim.Native.Nat.{ℕ, zero, suc, _+_, _-_, _*_, _/_, _%_, _^_, _≤_, _<_}
 use mathlib.Core.Path.{_≡_, refl, sym, ap, subst, _∙_}
 use mathlib.Core.List.{List}
 use mathlib.Core.Logic.{_⊎_, inl, inr}
 use native.Mathlib.Nat.{mod-lt, mul-le-mul-right, suc-mul}
 use native.Mathlib.Omega.{arith}
+use borrow.Author.Count.{below-more}
 use lib.ListN.{length, set, length-set, replicate}
 use lib.Bits.{bitAnd, and-shr, and-step}
 use Rattle.logic.specs.Structure.{at}
 use Rattle.logic.proofs.Decided.{at-set-same, at-set-other}
 use Rattle.knowledge.specs.Knows.{Bit, Labels, Words, Marks, Small, Same, Differ, Means}
 use Rattle.knowledge.proofs.Bits.{compare}
-use Rattle.rules.specs.Reasons.{Lawful}
-use Rattle.crowd.specs.Crowd.{rank, Held, Unlike, Free, Crowd, Gathered}
+use Rattle.rules.specs.Reasons.{Settled}
+use Rattle.crowd.specs.Crowd.{rank, Held, Known, Unlike, Gathered, Counted, Alike, Free, OneSymbol, Arguments}
 
 -- z in place of x where x is n
 move : {x n : ℕ} → (x < n) ⊎ ((x ≡ n) ⊎ (n < x)) → ℕ → ℕ
@@ -27,7 +29,7 @@ moved (inr (inl e)) z = inl (e, refl)
 moved (inr (inr h)) z = inr (λ e. absurd (omega arith), refl)
 
 -- the pigeonhole: what has the greatest number gives it up for the last one's
-pub pigeon : (n k : ℕ) (f : ℕ → ℕ) → ((a : ℕ) → a < k → f a < n) → ((a b : ℕ) → a < b → b < k → f a ≡ f b → ⊥) → k ≤ n
+pigeon : (n k : ℕ) (f : ℕ → ℕ) → ((a : ℕ) → a < k → f a < n) → ((a b : ℕ) → a < b → b < k → f a ≡ f b → ⊥) → k ≤ n
 pigeon zero zero f below apart = omega arith
 pigeon zero (suc k) f below apart = let h : f 0 < 0 = below 0 (omega arith) in absurd (omega arith)
 pigeon (suc n) zero f below apart = omega arith
@@ -77,18 +79,25 @@ rank-one w u free =
       | inr r ↦ elim r [ inl e ↦ absurd (free e) | inr g ↦ absurd (omega arith) ]
     ]
 
-pub rank-less : (w u v : ℕ) → u < v → (Bit w u → ⊥) → rank w u < rank w v
+rank-less : (w u v : ℕ) → u < v → (Bit w u → ⊥) → rank w u < rank w v
 rank-less w u v h free =
     let one = rank-one w u free in
     let up = rank-up w (suc u) v (omega arith) in
     omega arith
 
-pub rank-same : (w u v : ℕ) → (Bit w u → ⊥) → (Bit w v → ⊥) → rank w u ≡ rank w v → u ≡ v
+rank-same : (w u v : ℕ) → (Bit w u → ⊥) → (Bit w v → ⊥) → rank w u ≡ rank w v → u ≡ v
 rank-same w u v fu fv e =
     elim (compare u v) [
       | inl l ↦ let h = rank-less w u v l fu in absurd (omega arith)
       | inr r ↦ elim r [ inl s ↦ s | inr g ↦ let h = rank-less w v u g fv in absurd (omega arith) ]
     ]
+
+rank-next : (w v : ℕ) → rank w (v + 1) ≡ rank w v + (1 - w / 2 ^ v % 2)
+unfolding rank
+rank-next w v = let e : v + 1 ≡ suc v = omega arith in ap (rank w) e
+
+pub rank-step : (w v n : ℕ) → n ≡ rank w v → n + (1 - w / 2 ^ v % 2) ≡ rank w (v + 1)
+rank-step w v n e = ap (λ (k : ℕ). k + (1 - w / 2 ^ v % 2)) e ∙ sym (rank-next w v)
 
 -- pairs of numbers as one
 next-row : (r l n : ℕ) → r < l → r * n + n ≤ l * n
@@ -112,21 +121,61 @@ cell-column r s r′ s′ n q e =
     let p : r * n ≡ r′ * n = ap (λ (k : ℕ). k * n) q in
     omega arith
 
--- more terms in a crowd than pairs of codes that its words leave
-pub crowd-none : (n : ℕ) (symbol arg0 arg1 : List ℕ) (f : ℕ) (chosen : List ℕ) (k x y : ℕ) (c : ℕ → ℕ) → Lawful n symbol arg0 arg1 c → Crowd n symbol arg0 arg1 f chosen k x y c → rank x 16 * rank y 16 < k → ⊥
-crowd-none n symbol arg0 arg1 f chosen k x y c law g more =
-    let one : ℕ → ℕ = λ a. c (at arg0 (at chosen a)) in
-    let two : ℕ → ℕ = λ a. c (at arg1 (at chosen a)) in
-    let row : (a : ℕ) → a < k → rank x (one a) < rank x 16 = λ a h. rank-less x (one a) 16 (law .small _) (g .first a h) in
-    let column : (a : ℕ) → a < k → rank y (two a) < rank y 16 = λ a h. rank-less y (two a) 16 (law .small _) (g .second a h) in
-    let few : k ≤ rank x 16 * rank y 16 =
-    pigeon (rank x 16 * rank y 16) k (λ a. rank x (one a) * rank y 16 + rank y (two a))
-    (λ a h. cell-below _ _ _ _ (row a h) (column a h))
-    (λ a b ab bk e.
-    let ak : a < k = omega arith in
-    let rows = cell-row (rank x (one a)) (rank y (two a)) (rank x (one b)) (rank y (two b)) (rank y 16) (column a ak) (column b bk) e in
-    let columns = cell-column (rank x (one a)) (rank y (two a)) (rank x (one b)) (rank y (two b)) (rank y 16) rows e in
-    g .apart a b ab bk (law .congruent (at chosen a) (at chosen b) (g .below a ak) (g .below b bk) (g .symbols a ak ∙ sym (g .symbols b bk)) (rank-same x (one a) (one b) (g .first a ak) (g .first b bk) rows) (rank-same y (two a) (two b) (g .second a ak) (g .second b bk) columns))) in
+pub few-cells : (a b : ℕ) → a ≤ 16 → b ≤ 16 → a * b ≤ 256
+few-cells a b ha hb = let h : a * b ≤ 16 * b = mul-le-mul-right b ha in omega arith
+
+-- what counts a list: a word, one code for all, pairs of what counts the arguments
+pub word-counted : (l w list : List ℕ) (k x r : ℕ) → r ≡ rank x 16 → Means (λ c. Labels l c × Words w c) (Free x list k) → Means (λ c. Small c × (Labels l c × Words w c)) (Counted list k r)
+word-counted l w list k x r e free =
+    rw e
+    (record {
+      means = λ c h. record {
+        key = λ a. rank x (c (at list a));
+        below = λ a ha. rank-less x (c (at list a)) 16 (h .0 (at list a)) (free .means c (h .1) a ha);
+        same = λ a b ha hb q. rank-same x (c (at list a)) (c (at list b)) (free .means c (h .1) a ha) (free .means c (h .1) b hb) q;
+      };
+    })
+
+pub alike-counted : (l w list : List ℕ) (k : ℕ) → Means (Labels l) (Alike list k) → Means (λ c. Small c × (Labels l c × Words w c)) (Counted list k 1)
+alike-counted l w list k one =
+    record {
+      means = λ c h.
+          let all = one .means c (h .1 .0) in
+          record { key = λ a. 0; below = λ a ha. omega arith; same = λ a b ha hb q. all a ha ∙ sym (all b hb) };
+    }
+
+pub pairs-counted : (n : ℕ) (symbol arg0 arg1 l w list firsts seconds : List ℕ) (k x y : ℕ) → n ≤ 128 → OneSymbol n symbol list k → Arguments arg0 list k firsts → Arguments arg1 list k seconds
+    → Means (Settled n symbol arg0 arg1 l w) (Counted firsts k x) → Means (Settled n symbol arg0 arg1 l w) (Counted seconds k y) → Means (Settled n symbol arg0 arg1 l w) (Counted list k (x * y))
+pairs-counted n symbol arg0 arg1 l w list firsts seconds k x y few of first second one two =
+    record {
+      means = λ c s.
+          let p = one .means c s in
+          let q = two .means c s in
+          let small : (a : ℕ) → a < k → at list a < 128 = λ a ha. let t = of .terms a ha in omega arith in
+          record {
+            key = λ a. p .key a * y + q .key a;
+            below = λ a ha. cell-below (p .key a) (q .key a) x y (p .below a ha) (q .below a ha);
+            same = λ a b ha hb e.
+                let rows = cell-row (p .key a) (q .key a) (p .key b) (q .key b) y (q .below a ha) (q .below b hb) e in
+                let columns = cell-column (p .key a) (q .key a) (p .key b) (q .key b) y rows e in
+                s .lawful .congruent (at list a) (at list b) (of .terms a ha) (of .terms b hb) (of .symbols a b ha hb)
+                (ap c (sym (first a ha (small a ha))) ∙ p .same a b ha hb rows ∙ ap c (first b hb (small b hb)))
+                (ap c (sym (second a ha (small a ha))) ∙ q .same a b ha hb columns ∙ ap c (second b hb (small b hb)));
+          };
+    }
+
+pub settled-counted : (n : ℕ) (symbol arg0 arg1 l w list : List ℕ) (k r : ℕ) → Means (λ c. Small c × (Labels l c × Words w c)) (Counted list k r) → Means (Settled n symbol arg0 arg1 l w) (Counted list k r)
+settled-counted n symbol arg0 arg1 l w list k r p = record { means = λ c s. p .means c (s .lawful .small, (s .labels, s .words)) }
+
+-- a crowd has one symbol, and no codes are known of one with more terms than what counts them
+pub crowd-symbol : {n : ℕ} {symbol l w m : List ℕ} {f i : ℕ} {chosen : List ℕ} {k : ℕ} → Gathered n symbol l w m f i chosen k → OneSymbol n symbol chosen k
+crowd-symbol g = record { terms = g .terms; symbols = λ a b ha hb. g .symbols a ha ∙ sym (g .symbols b hb) }
+
+pub crowd-none : (n : ℕ) (symbol arg0 arg1 l w m : List ℕ) (f i : ℕ) (chosen : List ℕ) (k r : ℕ) (c : ℕ → ℕ) → Gathered n symbol l w m f i chosen k → Means (Settled n symbol arg0 arg1 l w) (Counted chosen k r) → r < k → Known n symbol arg0 arg1 l w m c → ⊥
+crowd-none n symbol arg0 arg1 l w m f i chosen k r c g counted more known =
+    let p = counted .means c (record { lawful = known .lawful; labels = known .knows .labels; words = known .knows .words }) in
+    let apart = g .apart .means c (record { small = known .lawful .small; knows = known .knows }) in
+    let few : k ≤ r = pigeon r k (p .key) (p .below) (λ a b ab bk e. apart a b ab bk (p .same a b (omega arith) bk e)) in
     absurd (omega arith)
 
 -- a bit of the codes common to two words is a bit of both
@@ -154,22 +203,25 @@ both a b h =
       ]
     ]
 
-pub bit-and : (a b v : ℕ) → Bit (bitAnd a b) v → Bit a v × Bit b v
+bit-and : (a b v : ℕ) → Bit (bitAnd a b) v → Bit a v × Bit b v
 bit-and a b v h = both (a / 2 ^ v) (b / 2 ^ v) (rw (and-shr a b v) at h)
 
--- the empty crowd, a term that is passed over, and one that is taken
-pub nobody : (n : ℕ) (symbol arg0 arg1 l w m : List ℕ) (f : ℕ) → Gathered n symbol arg0 arg1 l w m f 0 (replicate 128 0) 0 65535 65535
-nobody n symbol arg0 arg1 l w m f =
+-- the empty crowd, a term that is passed over, the last of the terms, and one that is taken
+pub nobody : (n : ℕ) (symbol l w m : List ℕ) (f : ℕ) → Gathered n symbol l w m f 0 (replicate 128 0) 0
+nobody n symbol l w m f =
     record {
       length = refl;
       few = omega arith;
-      crowd = record {
-        means = λ c k. record { below = λ a h. absurd (omega arith); symbols = λ a h. absurd (omega arith); apart = λ a b ab h. absurd (omega arith); first = λ a h. absurd (omega arith); second = λ a h. absurd (omega arith) };
-      };
+      terms = λ a h. absurd (omega arith);
+      symbols = λ a h. absurd (omega arith);
+      apart = record { means = λ c h a b ab bk. absurd (omega arith) };
     }
 
-pub passed : {n : ℕ} {symbol arg0 arg1 l w m : List ℕ} {f i : ℕ} {chosen : List ℕ} {k x y : ℕ} → Gathered n symbol arg0 arg1 l w m f i chosen k x y → Gathered n symbol arg0 arg1 l w m f (i + 1) chosen k x y
-passed g = let few = g .few in record { length = g .length; few = omega arith; crowd = g .crowd }
+pub passed : {n : ℕ} {symbol l w m : List ℕ} {f i : ℕ} {chosen : List ℕ} {k : ℕ} → Gathered n symbol l w m f i chosen k → Gathered n symbol l w m f (i + 1) chosen k
+passed g = let few = g .few in record { length = g .length; few = omega arith; terms = g .terms; symbols = g .symbols; apart = g .apart }
+
+pub ended : {n : ℕ} {symbol l w m : List ℕ} {f i j : ℕ} {chosen : List ℕ} {k : ℕ} → i ≡ j → Gathered n symbol l w m f i chosen k → Gathered n symbol l w m f j chosen k
+ended e g = let few = g .few in record { length = g .length; few = omega arith; terms = g .terms; symbols = g .symbols; apart = g .apart }
 
 -- what holds of the first k and of the next holds of the first k + 1
 more : (P : ℕ → Type 0) (chosen : List ℕ) (k i : ℕ) → k < length chosen → ((a : ℕ) → a < k → P (at chosen a)) → P i → (a : ℕ) → a < k + 1 → P (at (set chosen k i) a)
@@ -179,42 +231,28 @@ more P chosen k i short all one a h =
       | inr d ↦ elim d [ inl e ↦ rw (e, at-set-same chosen k i short) one | inr g ↦ absurd (omega arith) ]
     ]
 
-pub taken : (n : ℕ) (symbol arg0 arg1 l w m : List ℕ) (f i : ℕ) (chosen : List ℕ) (k x y u v : ℕ) → n ≤ 128 → i < n → Gathered n symbol arg0 arg1 l w m f i chosen k x y → at symbol i ≡ f
-    → Means (Held l w m) (Unlike chosen k i) → Means (λ c. Labels l c × Words w c) (Free u (at arg0 i)) → Means (λ c. Labels l c × Words w c) (Free v (at arg1 i))
-    → Gathered n symbol arg0 arg1 l w m f (i + 1) (set chosen k i) (k + 1) (bitAnd x u) (bitAnd y v)
-taken n symbol arg0 arg1 l w m f i chosen k x y u v hn hi g e other fu fv =
+pub taken : (n : ℕ) (symbol l w m : List ℕ) (f i : ℕ) (chosen : List ℕ) (k : ℕ) → n ≤ 128 → i < n → Gathered n symbol l w m f i chosen k → at symbol i ≡ f → Means (Held l w m) (Unlike chosen k i) → Gathered n symbol l w m f (i + 1) (set chosen k i) (k + 1)
+taken n symbol l w m f i chosen k hn hi g e other =
     let few = g .few in
     let len = g .length in
     let short : k < length chosen = omega arith in
     record {
       length = simp length-set len;
       few = omega arith;
-      crowd = record {
-        means = λ c kn.
-            let old = g .crowd .means c kn in
-            let held : Held l w m c = record { small = kn .lawful .small; knows = kn .knows } in
-            let lw : Labels l c × Words w c = (kn .knows .labels, kn .knows .words) in
-            record {
-              below = more (λ t. t < n) chosen k i short (old .below) hi;
-              symbols = more (λ t. at symbol t ≡ f) chosen k i short (old .symbols) e;
-              apart = λ a b ab hb q.
-                  let sa = at-set-other chosen k i a (λ z. absurd (omega arith)) in
-                  elim (compare b k) [
-                    | inl lb ↦ old .apart a b ab lb (ap c (sym sa) ∙ q ∙ ap c (at-set-other chosen k i b (λ z. absurd (omega arith))))
-                    | inr d ↦ elim d [
-                      | inl eb ↦ other .means c held a (omega arith) (ap c (sym sa) ∙ q ∙ ap (λ (z : ℕ). c (at (set chosen k i) z)) eb ∙ ap c (at-set-same chosen k i short))
-                      | inr gb ↦ absurd (omega arith)
-                    ]
-                  ];
-              first = more (λ t. Bit (bitAnd x u) (c (at arg0 t)) → ⊥) chosen k i short (λ a h b. old .first a h (bit-and x u _ b .0)) (λ b. fu .means c lw (bit-and x u _ b .1));
-              second = more (λ t. Bit (bitAnd y v) (c (at arg1 t)) → ⊥) chosen k i short (λ a h b. old .second a h (bit-and y v _ b .0)) (λ b. fv .means c lw (bit-and y v _ b .1));
-            };
+      terms = more (λ t. t < n) chosen k i short (g .terms) hi;
+      symbols = more (λ t. at symbol t ≡ f) chosen k i short (g .symbols) e;
+      apart = record {
+        means = λ c h a b ab hb q.
+            let sa = at-set-other chosen k i a (λ z. absurd (omega arith)) in
+            elim (compare b k) [
+              | inl lb ↦ g .apart .means c h a b ab lb (ap c (sym sa) ∙ q ∙ ap c (at-set-other chosen k i b (λ z. absurd (omega arith))))
+              | inr d ↦ elim d [
+                | inl eb ↦ other .means c h a (omega arith) (ap c (sym sa) ∙ q ∙ ap (λ (z : ℕ). c (at (set chosen k i) z)) eb ∙ ap c (at-set-same chosen k i short))
+                | inr gb ↦ absurd (omega arith)
+              ]
+            ];
       };
     }
-
-rank-next : (w v : ℕ) → rank w (v + 1) ≡ rank w v + (1 - w / 2 ^ v % 2)
-unfolding rank
-rank-next w v = let e : v + 1 ≡ suc v = omega arith in ap (rank w) e
 
 -- one more of those that are chosen
 pub unlike-more : (l w m chosen : List ℕ) (k i g h b : ℕ) → Means (Held l w m) (Unlike chosen k i) → Means (Labels l) (Same g i) → Means (Labels l) (Same h b) → b ≡ at chosen k → Means (λ c. Small c × (Words w c × Marks m c)) (Differ h g) → Means (Held l w m) (Unlike chosen (k + 1) i)
@@ -230,18 +268,27 @@ unlike-more l w m chosen k i g h b old lg lh eb d =
           ];
     }
 
-pub argument-free : (l w : List ℕ) (r g t s : ℕ) → Means (Words w) (Free r g) → Means (Labels l) (Same g t) → t ≡ s → Means (λ c. Labels l c × Words w c) (Free r s)
-argument-free l w r g t s p q e = record { means = λ c k b. p .means c (k .1) (subst (Bit r) (sym (q .means c (k .0) ∙ ap c e)) b) }
+-- one more of a list: its code, its word, its argument
+pub alike-more : (l list : List ℕ) (k g h t u : ℕ) → Means (Labels l) (Alike list k) → Means (Labels l) (Same g t) → t ≡ at list 0 → Means (Labels l) (Same h u) → u ≡ at list k → h ≡ g → Means (Labels l) (Alike list (k + 1))
+alike-more l list k g h t u old lg et lh eu e =
+    record {
+      means = λ c x. below-more _ k (old .means c x) (ap c (sym eu) ∙ sym (lh .means c x) ∙ ap c e ∙ lg .means c x ∙ ap c et);
+    }
 
-pub few-cells : (a b : ℕ) → a ≤ 16 → b ≤ 16 → a * b ≤ 256
-few-cells a b ha hb = let h : a * b ≤ 16 * b = mul-le-mul-right b ha in omega arith
+pub common-more : (l w list : List ℕ) (k x y g t : ℕ) → Means (λ c. Labels l c × Words w c) (Free x list k) → Means (Labels l) (Same g t) → t ≡ at list k → Means (Words w) (λ c. Bit y (c g) → ⊥) → Means (λ c. Labels l c × Words w c) (Free (bitAnd x y) list (k + 1))
+common-more l w list k x y g t old lg e free =
+    record {
+      means = λ c h.
+          below-more _ k (λ a ha b. old .means c h a ha (bit-and x y _ b .0))
+          (λ b. free .means c (h .1) (subst (Bit y) (ap c (sym e) ∙ sym (lg .means c (h .0))) (bit-and x y _ b .1)));
+    }
 
--- the count of the codes left is the product
-pub cells-more : (a b x y k : ℕ) → a ≡ rank x 16 → b ≡ rank y 16 → a * b < k → rank x 16 * rank y 16 < k
-cells-more a b x y k ea eb h = rw (ea, eb) at h
-
-pub rank-step : (w v n : ℕ) → n ≡ rank w v → n + (1 - w / 2 ^ v % 2) ≡ rank w (v + 1)
-rank-step w v n e = ap (λ (k : ℕ). k + (1 - w / 2 ^ v % 2)) e ∙ sym (rank-next w v)
-
-pub ended : {n : ℕ} {symbol arg0 arg1 l w m : List ℕ} {f i j : ℕ} {chosen : List ℕ} {k x y : ℕ} → i ≡ j → Gathered n symbol arg0 arg1 l w m f i chosen k x y → Gathered n symbol arg0 arg1 l w m f j chosen k x y
-ended e g = let few = g .few in record { length = g .length; few = omega arith; crowd = g .crowd }
+pub arguments-more : (args list : List ℕ) (k : ℕ) (r : List ℕ) (v t : ℕ) → k < length r → Arguments args list k r → t ≡ at list k → (t < 128 → v ≡ at args t) → Arguments args list (k + 1) (set r k v)
+arguments-more args list k r v t short old e new a ha small =
+    elim (compare a k) [
+      | inl l ↦ at-set-other r k v a (λ z. absurd (omega arith)) ∙ old a l small
+      | inr d ↦ elim d [
+        | inl q ↦ let s : t ≡ at list a = e ∙ ap (at list) (sym q) in ap (at (set r k v)) q ∙ at-set-same r k v short ∙ new (omega arith) ∙ ap (at args) s
+        | inr g ↦ absurd (omega arith)
+      ]
+    ]

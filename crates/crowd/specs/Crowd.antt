@@ -1,4 +1,5 @@
--- A crowd: terms of one symbol whose codes all differ. Its argument codes then all differ as pairs, so there are enough such pairs.
+-- A crowd: terms of one symbol whose codes all differ. They are at most as many as their arguments have pairs of codes, which is said by
+-- numbers that tell codes apart.
 use Prim.Native.Nat.{ℕ, zero, suc, _+_, _-_, _/_, _%_, _^_, _≤_, _<_}
 use mathlib.Core.Path.{_≡_}
 use mathlib.Core.List.{List}
@@ -26,21 +27,37 @@ pub record Known (n : ℕ) (symbol arg0 arg1 l w m : List ℕ) (c : ℕ → ℕ)
 abbrev pub Unlike : List ℕ → ℕ → ℕ → (ℕ → ℕ) → Type 0
 Unlike chosen k i c = (a : ℕ) → a < k → c (at chosen a) ≡ c i → ⊥
 
--- the code of a term is not struck out in a word
-abbrev pub Free : ℕ → ℕ → (ℕ → ℕ) → Type 0
-Free w i c = Bit w (c i) → ⊥
+-- the codes of the first k that are chosen all differ
+abbrev pub Apart : List ℕ → ℕ → (ℕ → ℕ) → Type 0
+Apart chosen k c = (a b : ℕ) → a < b → b < k → c (at chosen a) ≡ c (at chosen b) → ⊥
 
--- the first k that are chosen are terms of the symbol f, their codes all differ, and no code of a first argument is struck out in x and
--- none of a second in y
-pub record Crowd (n : ℕ) (symbol arg0 arg1 : List ℕ) (f : ℕ) (chosen : List ℕ) (k x y : ℕ) (c : ℕ → ℕ) : Type 0 where
-  pub below : (a : ℕ) → a < k → at chosen a < n
-  pub symbols : (a : ℕ) → a < k → at symbol (at chosen a) ≡ f
-  pub apart : (a b : ℕ) → a < b → b < k → c (at chosen a) ≡ c (at chosen b) → ⊥
-  pub first : (a : ℕ) → a < k → Bit x (c (at arg0 (at chosen a))) → ⊥
-  pub second : (a : ℕ) → a < k → Bit y (c (at arg1 (at chosen a))) → ⊥
-
--- a crowd among the first i terms
-pub record Gathered (n : ℕ) (symbol arg0 arg1 l w m : List ℕ) (f i : ℕ) (chosen : List ℕ) (k x y : ℕ) : Type 0 where
+-- a crowd of the symbol f among the first i terms
+pub record Gathered (n : ℕ) (symbol l w m : List ℕ) (f i : ℕ) (chosen : List ℕ) (k : ℕ) : Type 0 where
   pub length : length chosen ≡ 128
   pub few : k ≤ i
-  pub crowd : Means (Known n symbol arg0 arg1 l w m) (Crowd n symbol arg0 arg1 f chosen k x y)
+  pub terms : (a : ℕ) → a < k → at chosen a < n
+  pub symbols : (a : ℕ) → a < k → at symbol (at chosen a) ≡ f
+  pub apart : Means (Held l w m) (Apart chosen k)
+
+-- numbers below r tell the codes of the first k of a list apart, so that there are at most r of these codes
+pub record Counted (list : List ℕ) (k r : ℕ) (c : ℕ → ℕ) : Type 0 where
+  pub key : ℕ → ℕ
+  pub below : (a : ℕ) → a < k → key a < r
+  pub same : (a b : ℕ) → a < k → b < k → key a ≡ key b → c (at list a) ≡ c (at list b)
+
+-- the first k of a list have the code of its first
+abbrev pub Alike : List ℕ → ℕ → (ℕ → ℕ) → Type 0
+Alike list k c = (a : ℕ) → a < k → c (at list a) ≡ c (at list 0)
+
+-- no code of the first k of a list is struck out in a word
+abbrev pub Free : ℕ → List ℕ → ℕ → (ℕ → ℕ) → Type 0
+Free w list k c = (a : ℕ) → a < k → Bit w (c (at list a)) → ⊥
+
+-- the first k of a list are terms of one symbol
+pub record OneSymbol (n : ℕ) (symbol list : List ℕ) (k : ℕ) : Type 0 where
+  pub terms : (a : ℕ) → a < k → at list a < n
+  pub symbols : (a b : ℕ) → a < k → b < k → at symbol (at list a) ≡ at symbol (at list b)
+
+-- the first k of a list r are the arguments of those of another, as far as these are terms
+abbrev pub Arguments : List ℕ → List ℕ → ℕ → List ℕ → Type 0
+Arguments args list k r = (a : ℕ) → a < k → at list a < 128 → at r a ≡ at args (at list a)

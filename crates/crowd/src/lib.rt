@@ -1,4 +1,6 @@
-// R6 of propagation: terms of one symbol whose codes all differ need as many pairs of argument codes.
+// R6 of propagation: terms of one symbol whose codes all differ are at most as many as their arguments have pairs of codes. Arguments
+// that are terms of one symbol themselves are counted the same way.
+use knowledge::MOST;
 use knowledge::apart;
 use knowledge::label;
 use knowledge::strike;
@@ -8,28 +10,17 @@ ghost use mathlib.Core.Path.{_≡_};
 ghost use mathlib.Core.Bool.{true};
 ghost use Prim.Native.Nat.{_+_, _≤_, _<_};
 ghost use Rattle.logic.specs.Structure.{at};
-ghost use Rattle.knowledge.specs.Knows.{Labels, Words, Marks, Means, Kept};
-ghost use Rattle.crowd.specs.Crowd.{rank, Held, Known, Unlike, Free, Gathered};
+ghost use Rattle.knowledge.specs.Knows.{Labels, Words, Small, Means, Kept};
+ghost use Rattle.rules.specs.Reasons.{Settled};
+ghost use Rattle.crowd.specs.Crowd.{rank, Held, Known, Unlike, Gathered, Alike, Free, Counted, OneSymbol, Arguments};
 
-// Terms of one symbol whose codes all differ, with the codes that no first and no second argument of theirs can have.
+// How many levels of arguments are looked at below those of a crowd.
+const LEVELS: usize = 3;
+
+// Terms of one symbol whose codes all differ: the first of those that are chosen.
 struct Crowd {
     chosen: [u8; 128],
     count: usize,
-    first: u16,
-    second: u16,
-}
-
-// How many codes a word leaves.
-fn left(w: u16) -> usize
-    ensures { λ r. ⌜ (r ≡ rank w 16) × (r ≤ 16) ⌝ }
-{
-    let mut n: usize = 0;
-    let mut v: usize = 0;
-    while v < 16 {
-        n += 1 - ((w >> v) % 2) as usize;
-        v += 1;
-    }
-    n
 }
 
 // Whether a term is known to differ from all that are chosen.
@@ -56,19 +47,6 @@ fn unlike<'a>(
     true
 }
 
-// The codes that an argument of a term cannot have.
-fn argument_word<'a>(
-    labels: &'a [u8; 128],
-    words: &'a [u16; 128],
-    args: &'a [u8; 128],
-    i: usize,
-) -> u16
-    requires { ⌜ i < 128 ⌝ }
-    ensures { λ r. ⌜ Means (λ c. Labels (now (labels .entry)) c × Words (now (words .entry)) c) (Free r (at (now (args .entry)) i)) ⌝ }
-{
-    word(words, label(labels, wide(args[i])))
-}
-
 // A crowd with one more term, if that is of the symbol and known to differ from the others.
 fn grow<'a>(
     g: Crowd,
@@ -76,15 +54,13 @@ fn grow<'a>(
     labels: &'a [u8; 128],
     marks: &'a [u64; 256],
     symbol: &'a [u8; 128],
-    arg0: &'a [u8; 128],
-    arg1: &'a [u8; 128],
     n: usize,
     f: u8,
     i: usize,
 ) -> Crowd
     requires { ⌜ (n ≤ 128) × (i < n) ⌝ }
-    requires { ⌜ Gathered n (now symbol) (now arg0) (now arg1) (now labels) (now words) (now marks) f i (g .chosen) (g .count) (g .first) (g .second) ⌝ }
-    ensures { λ r. ⌜ Gathered n (now (symbol .entry)) (now (arg0 .entry)) (now (arg1 .entry)) (now (labels .entry)) (now (words .entry)) (now (marks .entry)) f (i + 1) (r .chosen) (r .count) (r .first) (r .second) ⌝ }
+    requires { ⌜ Gathered n (now symbol) (now labels) (now words) (now marks) f i (g .chosen) (g .count) ⌝ }
+    ensures { λ r. ⌜ Gathered n (now (symbol .entry)) (now (labels .entry)) (now (words .entry)) (now (marks .entry)) f (i + 1) (r .chosen) (r .count) ⌝ }
 {
     let e = symbol[i];
     if e != f {
@@ -95,15 +71,9 @@ fn grow<'a>(
     if !unlike(labels, words, marks, &chosen, k, i) {
         return g;
     }
-    let x = argument_word(labels, words, arg0, i);
-    let y = argument_word(labels, words, arg1, i);
     chosen[k] = i as u8;
-    Crowd {
-        chosen,
-        count: k + 1,
-        first: g.first & x,
-        second: g.second & y,
-    }
+    let count = k + 1;
+    Crowd { chosen, count }
 }
 
 // A crowd of a symbol, each term taken where it can be.
@@ -112,27 +82,167 @@ fn gather<'a>(
     labels: &'a [u8; 128],
     marks: &'a [u64; 256],
     symbol: &'a [u8; 128],
-    arg0: &'a [u8; 128],
-    arg1: &'a [u8; 128],
     n: usize,
     f: u8,
 ) -> Crowd
     requires { ⌜ n ≤ 128 ⌝ }
-    ensures { λ r. ⌜ Gathered n (now (symbol .entry)) (now (arg0 .entry)) (now (arg1 .entry)) (now (labels .entry)) (now (words .entry)) (now (marks .entry)) f n (r .chosen) (r .count) (r .first) (r .second) ⌝ }
+    ensures { λ r. ⌜ Gathered n (now (symbol .entry)) (now (labels .entry)) (now (words .entry)) (now (marks .entry)) f n (r .chosen) (r .count) ⌝ }
 {
     let mut g = Crowd {
         chosen: [0u8; 128],
         count: 0,
-        first: 65535,
-        second: 65535,
     };
     let mut i: usize = 0;
     while i < n {
-        let next = grow(g, words, labels, marks, symbol, arg0, arg1, n, f, i);
+        let next = grow(g, words, labels, marks, symbol, n, f, i);
         g = next;
         i += 1;
     }
     g
+}
+
+// Whether the first k of a list have one label.
+fn alike<'a>(labels: &'a [u8; 128], list: &'a [u8; 128], k: usize) -> bool
+    requires { ⌜ k ≤ 128 ⌝ }
+    ensures { λ r. ⌜ (r ≡ true → Means (Labels (now (labels .entry))) (Alike (now (list .entry)) k)) ⌝ }
+{
+    let g = label(labels, wide(list[0]));
+    let mut a: usize = 0;
+    while a < k {
+        if label(labels, wide(list[a])) != g {
+            return false;
+        }
+        a += 1;
+    }
+    true
+}
+
+// The codes that none of the first k of a list can have.
+fn common<'a>(labels: &'a [u8; 128], words: &'a [u16; 128], list: &'a [u8; 128], k: usize) -> u16
+    requires { ⌜ k ≤ 128 ⌝ }
+    ensures { λ r. ⌜ Means (λ c. Labels (now (labels .entry)) c × Words (now (words .entry)) c) (Free r (now (list .entry)) k) ⌝ }
+{
+    let mut w: u16 = 65535;
+    let mut a: usize = 0;
+    while a < k {
+        w = w & word(words, label(labels, wide(list[a])));
+        a += 1;
+    }
+    w
+}
+
+// How many codes a word leaves.
+fn left(w: u16) -> usize
+    ensures { λ r. ⌜ (r ≡ rank w 16) × (r ≤ 16) ⌝ }
+{
+    let mut n: usize = 0;
+    let mut v: usize = 0;
+    while v < 16 {
+        n += 1 - ((w >> v) % 2) as usize;
+        v += 1;
+    }
+    n
+}
+
+// How many codes the first k of a list can have between them, by their labels and words.
+fn values<'a>(labels: &'a [u8; 128], words: &'a [u16; 128], list: &'a [u8; 128], k: usize) -> usize
+    requires { ⌜ k ≤ 128 ⌝ }
+    ensures { λ r. ⌜ Means (λ c. Small c × (Labels (now (labels .entry)) c × Words (now (words .entry)) c)) (Counted (now (list .entry)) k r) × (r ≤ 16) ⌝ }
+{
+    if alike(labels, list, k) {
+        return 1;
+    }
+    left(common(labels, words, list, k))
+}
+
+// What an array has for a term; 255 for a number past the terms.
+fn of_term(xs: &[u8; 128], i: usize) -> u8
+    ensures { λ r. ⌜ (i < 128 → r ≡ at (now (xs .entry)) i) ⌝ }
+{
+    if i < MOST { xs[i] } else { 255 }
+}
+
+// Whether the first k of a list are terms of one symbol.
+fn one_symbol<'a>(symbol: &'a [u8; 128], n: usize, list: &'a [u8; 128], k: usize) -> bool
+    requires { ⌜ (n ≤ 128) × (k ≤ 128) ⌝ }
+    ensures { λ r. ⌜ (r ≡ true → OneSymbol n (now (symbol .entry)) (now (list .entry)) k) ⌝ }
+{
+    let f = of_term(symbol, wide(list[0]));
+    let mut a: usize = 0;
+    while a < k {
+        let i = wide(list[a]);
+        if n <= i {
+            return false;
+        }
+        if symbol[i] != f {
+            return false;
+        }
+        a += 1;
+    }
+    true
+}
+
+// The arguments of the first k of a list, which are at one place.
+fn arguments<'a>(args: &'a [u8; 128], list: &'a [u8; 128], k: usize) -> [u8; 128]
+    requires { ⌜ k ≤ 128 ⌝ }
+    ensures { λ r. ⌜ Arguments (now (args .entry)) (now (list .entry)) k r ⌝ }
+{
+    let mut r = [255u8; 128];
+    let mut a: usize = 0;
+    while a < k {
+        r[a] = of_term(args, wide(list[a]));
+        a += 1;
+    }
+    r
+}
+
+// How many pairs of codes the arguments of the first k of a list, terms of one symbol, can have between them.
+fn pairs<'a>(
+    words: &'a [u16; 128],
+    labels: &'a [u8; 128],
+    symbol: &'a [u8; 128],
+    arg0: &'a [u8; 128],
+    arg1: &'a [u8; 128],
+    n: usize,
+    list: &'a [u8; 128],
+    k: usize,
+    levels: usize,
+) -> usize
+    requires { ⌜ (n ≤ 128) × (k ≤ 128) ⌝ }
+    requires { ⌜ OneSymbol n (now symbol) (now list) k ⌝ }
+    ensures { λ r. ⌜ Means (Settled n (now (symbol .entry)) (now (arg0 .entry)) (now (arg1 .entry)) (now (labels .entry)) (now (words .entry))) (Counted (now (list .entry)) k r) × (r ≤ 256) ⌝ }
+{
+    let firsts = arguments(arg0, list, k);
+    let seconds = arguments(arg1, list, k);
+    let x = reach(words, labels, symbol, arg0, arg1, n, &firsts, k, levels);
+    let y = reach(words, labels, symbol, arg0, arg1, n, &seconds, k, levels);
+    x * y
+}
+
+// How many codes the first k of a list can have between them, by their words or by their arguments.
+fn reach<'a>(
+    words: &'a [u16; 128],
+    labels: &'a [u8; 128],
+    symbol: &'a [u8; 128],
+    arg0: &'a [u8; 128],
+    arg1: &'a [u8; 128],
+    n: usize,
+    list: &'a [u8; 128],
+    k: usize,
+    levels: usize,
+) -> usize
+    requires { ⌜ (n ≤ 128) × (k ≤ 128) ⌝ }
+    ensures { λ r. ⌜ Means (Settled n (now (symbol .entry)) (now (arg0 .entry)) (now (arg1 .entry)) (now (labels .entry)) (now (words .entry))) (Counted (now (list .entry)) k r) × (r ≤ 16) ⌝ }
+{
+    let whole = values(labels, words, list, k);
+    if levels == 0 {
+        return whole;
+    }
+    if !one_symbol(symbol, n, list, k) {
+        return whole;
+    }
+    let both = pairs(words, labels, symbol, arg0, arg1, n, list, k, levels - 1);
+    if both < whole { both } else { whole }
 }
 
 // R6 of one symbol: more terms in its crowd than pairs of argument codes leave no code to a term i.
@@ -150,8 +260,13 @@ fn strike_crowd<'a>(
     ensures { λ _. ⌜ Kept (Known n (now (symbol .entry)) (now (arg0 .entry)) (now (arg1 .entry)) (now (labels .entry)) (now (words .entry)) (now (marks .entry))) (Words (now (words .entry))) (Words (now (words .exit))) ⌝ }
 {
     let f = symbol[i];
-    let g = gather(words, labels, marks, symbol, arg0, arg1, n, f);
-    if left(g.first) * left(g.second) < g.count {
+    let g = gather(words, labels, marks, symbol, n, f);
+    let k = g.count;
+    if k < 2 {
+        return false;
+    }
+    let chosen = g.chosen;
+    if pairs(words, labels, symbol, arg0, arg1, n, &chosen, k, LEVELS) < k {
         return strike(words, i, 65535);
     }
     false

@@ -8,13 +8,13 @@ use Rattle.crowd.proofs.gather.Statement.{statement}
 use Rattle.crowd.proofs.gather.Tie as tie
 
 abbrev Inv-loop : tie.InvT-loop
-Inv-loop words labels marks symbol arg0 arg1 n f g₀ i₀ g i = (n ≤ 128) × (i ≤ n) × Gathered n symbol arg0 arg1 labels words marks f i (g .chosen) (g .count) (g .first) (g .second)
+Inv-loop words labels marks symbol n f g₀ i₀ g i = (n ≤ 128) × (i ≤ n) × Gathered n symbol labels words marks f i (g .chosen) (g .count)
 
 abbrev μ-loop : tie.MeasureT-loop
-μ-loop words labels marks symbol arg0 arg1 n f g₀ i₀ g i = n - i
+μ-loop words labels marks symbol n f g₀ i₀ g i = n - i
 
 loop-holds : tie.Need-loop-holds Inv-loop μ-loop
-loop-holds c = (omega arith, omega arith, nobody _ _ _ _ _ _ _ _)
+loop-holds c = (omega arith, omega arith, nobody _ _ _ _ _ _)
 
 grow-requires : tie.Need-grow-requires Inv-loop μ-loop
 grow-requires c κs = ((omega arith, omega arith), c .before .loop .inv .2)

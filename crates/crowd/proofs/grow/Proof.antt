@@ -2,7 +2,6 @@
 use borrow.Author.Tests.{not-false}
 use Rattle.crowd.proofs.Laws.{taken, passed}
 use borrow.Author.Needs.{needs}
-use borrow.Author.Needs.{needs}
 use Rattle.crowd.proofs.grow.Statement.{statement}
 use Rattle.crowd.proofs.grow.Tie as tie
 
@@ -18,25 +17,19 @@ unlike-requires c κs = search needs
 returns-2 : tie.Need-returns-2
 returns-2 c = passed (c .before .before .before .before .before .before .pre .1)
 
-argument-word-requires : tie.Need-argument-word-requires
-argument-word-requires c κs = search needs
-
-argument-word-requires-2 : tie.Need-argument-word-requires-2
-argument-word-requires-2 c κs = search needs
-
 cast-chosen : tie.Need-cast-chosen
 cast-chosen c = search needs
 
 array-write-chosen : tie.Need-array-write-chosen
 array-write-chosen c = search needs
 
-add-t25 : tie.Need-add-t25
-add-t25 c = search needs
+add-count : tie.Need-add-count
+add-count c = search needs
 
 returns-3 : tie.Need-returns-3
 returns-3 c =
-    let s = c .before .before .before .before .before .before .before .before .before .before in
-    taken _ _ _ _ _ _ _ _ _ _ _ _ _ _ _ (s .pre .0 .0) (s .pre .0 .1) (s .pre .1) (c .before .before .before .before .before .before .before .before .if1 .left) (c .before .before .before .before .before .unlike .ensures (not-false _ (c .before .before .before .before .if2 .left))) (c .before .before .before .argument-word .ensures) (c .before .before .argument-word2 .ensures)
+    let s = c .before .before .before .before .before .before in
+    taken _ _ _ _ _ _ _ _ _ (s .pre .0 .0) (s .pre .0 .1) (s .pre .1) (c .before .before .before .before .if1 .left) (c .before .unlike .ensures (not-false _ (c .if2 .left)))
 
 pub grow-spec : {M : Type 1} → statement M
 grow-spec =
@@ -46,9 +39,7 @@ grow-spec =
     returns
     unlike-requires
     returns-2
-    argument-word-requires
-    argument-word-requires-2
     cast-chosen
     array-write-chosen
-    add-t25
+    add-count
     returns-3)
