@@ -1,0 +1,4 @@
+pub mod Loops
+pub mod Odometers
+pub mod Answers
+pub mod Texts
