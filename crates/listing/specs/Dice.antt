@@ -12,7 +12,7 @@ abbrev pub high : ℕ → ℕ
 high s = s / 65536 % 65536
 
 -- the number out of n that a state gives: the upper bits of the next one modulo n, or 0
-abbrev pub picked : ℕ → ℕ → ℕ
+unfoldable pub picked : ℕ → ℕ → ℕ
 picked s n = if (eqb n 0) 0 (high (next s) % n)
 
 -- the product of a number below 2^24 and one below 2^8

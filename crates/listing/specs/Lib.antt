@@ -5,4 +5,5 @@ pub mod Ranges
 pub mod Cells
 pub mod Answer
 pub mod Apart
+pub mod Draw
 pub mod Encode

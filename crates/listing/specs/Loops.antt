@@ -1,4 +1,5 @@
 -- What loops and tests give, and the entries of arrays whose index goes round.
+-- The listing has these words of its own: what it is held against is proved with others.
 use Prim.Native.Nat.{ℕ, zero, suc, _%_}
 use mathlib.Core.Bool.{Bool, true, false, _&&_}
 use mathlib.Core.List.{List}

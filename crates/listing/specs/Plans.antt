@@ -119,6 +119,29 @@ withLiteral p e a b =
       total = p .total;
     }
 
+-- the plan with a total
+unfoldable pub withTotal : Plan → ℕ → Plan
+withTotal p n =
+    record {
+      sorts = p .sorts;
+      floor = p .floor;
+      ceiling = p .ceiling;
+      symbols = p .symbols;
+      result = p .result;
+      arity = p .arity;
+      param0 = p .param0;
+      param1 = p .param1;
+      terms = p .terms;
+      symbol = p .symbol;
+      arg0 = p .arg0;
+      arg1 = p .arg1;
+      literals = p .literals;
+      equal = p .equal;
+      left = p .left;
+      right = p .right;
+      total = n;
+    }
+
 -- the sort of a term: that of its symbol's result
 abbrev pub sortOf : Plan → ℕ → ℕ
 sortOf p t = entry 8 (p .result) (entry 16 (p .symbol) t)

@@ -1,4 +1,5 @@
 -- What the trial counts. Every count but that of the differences is fixed by the listing, whatever the entry points answer.
+-- Counts go by their numbers in `src/tally.rt`; 21 is that of the differences.
 use Prim.Native.Nat.{ℕ, _+_, _/_, _%_, _^_}
 use mathlib.Core.Bool.{Bool, not}
 use mathlib.Core.List.{List}

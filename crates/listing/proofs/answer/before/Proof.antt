@@ -27,7 +27,11 @@ key-byte-requires-2 : tie.Need-key-byte-requires-2 Inv-loop μ-loop
 key-byte-requires-2 c κs = search needs
 
 returns : tie.Need-returns Inv-loop μ-loop
-returns c = earlier-at (c .before .before .before .before .before .args .a) (c .before .before .before .before .before .args .b) (c .before .before .before .before .loop .k) _ _ (c .before .before .key-byte .ensures) (c .before .key-byte2 .ensures) 32 (c .before .before .before .loop-test .taken) (c .before .before .before .before .loop .inv .1) (c .if1 .taken)
+returns c =
+    let args = c .before .before .before .before .before .args in
+    let loop = c .before .before .before .before .loop in
+    let loop-test = c .before .before .before .loop-test in
+    earlier-at (args .a) (args .b) (loop .k) _ _ (c .before .before .key-byte .ensures) (c .before .key-byte2 .ensures) 32 (loop-test .taken) (loop .inv .1) (c .if1 .taken)
 
 add-k : tie.Need-add-k Inv-loop μ-loop
 add-k c = search needs
@@ -36,7 +40,10 @@ loop-less : tie.Need-loop-less Inv-loop μ-loop
 loop-less c = search needs
 
 loop-again : tie.Need-loop-again Inv-loop μ-loop
-loop-again c = (search needs, every-more (c .before .before .before .before .loop .k) (level (c .before .before .before .before .before .args .a) (c .before .before .before .before .before .args .b)) (c .before .before .before .before .loop .inv .1) (level-same (c .before .before .before .before .before .args .a) (c .before .before .before .before .before .args .b) (c .before .before .before .before .loop .k) _ _ (c .before .before .key-byte .ensures) (c .before .key-byte2 .ensures) (c .if1 .left)))
+loop-again c =
+    let args = c .before .before .before .before .before .args in
+    let loop = c .before .before .before .before .loop in
+    (search needs, every-more (loop .k) (level (args .a) (args .b)) (loop .inv .1) (level-same (args .a) (args .b) (loop .k) _ _ (c .before .before .key-byte .ensures) (c .before .key-byte2 .ensures) (c .if1 .left)))
 
 returns-2 : tie.Need-returns-2 Inv-loop μ-loop
 returns-2 c =

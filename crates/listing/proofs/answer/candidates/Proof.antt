@@ -51,13 +51,20 @@ loop-less : tie.Need-loop-less Inv-loop μ-loop
 loop-less c = search needs
 
 loop-again : tie.Need-loop-again Inv-loop μ-loop
-loop-again c = (search needs, rw (sizes-more, c .next-sizes .ensures, c .before .before .before .before .before .before .before .before .tops .ensures, c .before .before .before .before .before .before .loop .inv .1), rw (turns-more, c .before .capped .ensures, c .before .before .plus .ensures, c .before .before .before .count-at .ensures, c .before .before .before .before .shaped .ensures, c .before .before .before .before .before .before .loop .inv .1, c .before .before .before .before .before .before .loop .inv .2))
+loop-again c =
+    let tops = c .before .before .before .before .before .before .before .before .tops in
+    let loop = c .before .before .before .before .before .before .loop in
+    let shaped = c .before .before .before .before .shaped in
+    let count-at = c .before .before .before .count-at in
+    (search needs, rw (sizes-more, c .next-sizes .ensures, tops .ensures, loop .inv .1), rw (turns-more, c .before .capped .ensures, c .before .before .plus .ensures, count-at .ensures, shaped .ensures, loop .inv .1, loop .inv .2))
 
 returns : tie.Need-returns Inv-loop μ-loop
 unfolding candidatesOf
 returns c =
-    let e : c .before .loop .counter ≡ c .before .before .vectors .result = omega arith in
-    rw (e ∙ rw (c .before .before .before .tops .ensures) at (c .before .before .vectors .ensures)) at (c .before .loop .inv .2)
+    let tops = c .before .before .before .tops in
+    let vectors = c .before .before .vectors in
+    let e : c .before .loop .counter ≡ vectors .result = omega arith in
+    rw (e ∙ rw (tops .ensures) at (vectors .ensures)) at (c .before .loop .inv .2)
 
 pub candidates-spec : {M : Type 1} → statement M
 candidates-spec =

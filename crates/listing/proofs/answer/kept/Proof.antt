@@ -15,7 +15,8 @@ first-broken-requires c κs = search needs
 returns : tie.Need-returns
 unfolding keptOf
 returns c =
-    let e = rw (c .before .before .first-broken .ensures, c .before .before .before .evaluate .ensures) at (lt-ltb _ _ (c .if1 .taken)) in
+    let evaluate = c .before .before .before .evaluate in
+    let e = rw (c .before .before .first-broken .ensures, evaluate .ensures) at (lt-ltb _ _ (c .if1 .taken)) in
     (rw e, rw e)
 
 key-of-requires : tie.Need-key-of-requires
@@ -30,15 +31,23 @@ copy-requires c κs = search needs
 returns-2 : tie.Need-returns-2
 unfolding keptOf
 returns-2 c =
-    let e = rw (c .before .before .before .before .before .before .before .first-broken .ensures, c .before .before .before .before .before .before .before .before .evaluate .ensures) at (le-ltb _ _ (c .before .before .before .before .before .if1 .left)) in
-    let g = rw (c .before .before .before .before .key-of .ensures, c .before .before .before .before .before .before .before .before .evaluate .ensures) at (sym (c .before .before .before .before2 .ensures) ∙ c .before .before .if2 .taken) in
-    (rw (e, g) (rw (c .before .before .before .before .before .before .before .before .evaluate .ensures) at (c .before .before .before .before .key-of .ensures)), rw (e, g) (c .copy .ensures))
+    let evaluate = c .before .before .before .before .before .before .before .before .evaluate in
+    let first-broken = c .before .before .before .before .before .before .before .first-broken in
+    let if1 = c .before .before .before .before .before .if1 in
+    let key-of = c .before .before .before .before .key-of in
+    let before2 = c .before .before .before .before2 in
+    let e = rw (first-broken .ensures, evaluate .ensures) at (le-ltb _ _ (if1 .left)) in
+    let g = rw (key-of .ensures, evaluate .ensures) at (sym (before2 .ensures) ∙ c .before .before .if2 .taken) in
+    (rw (e, g) (rw (evaluate .ensures) at (key-of .ensures)), rw (e, g) (c .copy .ensures))
 
 returns-3 : tie.Need-returns-3
 unfolding keptOf
 returns-3 c =
-    let e = rw (c .before .before .before .before .before .first-broken .ensures, c .before .before .before .before .before .before .evaluate .ensures) at (le-ltb _ _ (c .before .before .before .if1 .left)) in
-    let g = rw (c .before .before .key-of .ensures, c .before .before .before .before .before .before .evaluate .ensures) at (sym (c .before .before2 .ensures) ∙ c .if2 .left) in
+    let evaluate = c .before .before .before .before .before .before .evaluate in
+    let first-broken = c .before .before .before .before .before .first-broken in
+    let if1 = c .before .before .before .if1 in
+    let e = rw (first-broken .ensures, evaluate .ensures) at (le-ltb _ _ (if1 .left)) in
+    let g = rw (c .before .before .key-of .ensures, evaluate .ensures) at (sym (c .before .before2 .ensures) ∙ c .if2 .left) in
     (rw (e, g), rw (e, g))
 
 pub kept-spec : {M : Type 1} → statement M

@@ -43,8 +43,10 @@ loop-again c = (search needs, rw (turns-more, c .with-byte .ensures, c .before .
 returns : tie.Need-returns Inv-loop μ-loop
 unfolding keyOf
 returns c =
-    let e : c .before .loop .k ≡ c .before .before .plus2 .result = omega arith in
-    rw (e ∙ rw (c .before .before .before .plus .ensures) at (c .before .before .plus2 .ensures)) at (c .before .loop .inv .1)
+    let plus = c .before .before .before .plus in
+    let plus2 = c .before .before .plus2 in
+    let e : c .before .loop .k ≡ plus2 .result = omega arith in
+    rw (e ∙ rw (plus .ensures) at (plus2 .ensures)) at (c .before .loop .inv .1)
 
 pub key-of-spec : {M : Type 1} → statement M
 key-of-spec =

@@ -44,13 +44,20 @@ loop-less : tie.Need-loop-less Inv-loop μ-loop
 loop-less c = search needs
 
 loop-again : tie.Need-loop-again Inv-loop μ-loop
-loop-again c = (search needs, rw (sizes-more, c .next-sizes .ensures, c .before .before .before .before .before .before .before .tops .ensures, c .before .before .before .before .before .loop .inv .1), found-step (listedWithin (c .before .before .before .before .before .before .before .before .args .p) (c .before .before .before .shaped .result)) _ _ _ _ (c .before .before .before .before .before .loop .inv .2) (c .before .list-within .ensures .0) (c .before .list-within .ensures .1) ∙ rw (turns-more, c .before .before .before .shaped .ensures, c .before .before .before .before .before .loop .inv .1))
+loop-again c =
+    let args = c .before .before .before .before .before .before .before .before .args in
+    let tops = c .before .before .before .before .before .before .before .tops in
+    let loop = c .before .before .before .before .before .loop in
+    let shaped = c .before .before .before .shaped in
+    (search needs, rw (sizes-more, c .next-sizes .ensures, tops .ensures, loop .inv .1), found-step (listedWithin (args .p) (shaped .result)) _ _ _ _ (loop .inv .2) (c .before .list-within .ensures .0) (c .before .list-within .ensures .1) ∙ rw (turns-more, shaped .ensures, loop .inv .1))
 
 returns : tie.Need-returns Inv-loop μ-loop
 unfolding listed
 returns c =
-    let e : c .before .loop .counter ≡ c .before .before .vectors .result = omega arith in
-    let f = rw (e ∙ rw (c .before .before .before .tops .ensures) at (c .before .before .vectors .ensures)) at (c .before .loop .inv .2) in
+    let tops = c .before .before .before .tops in
+    let vectors = c .before .before .vectors in
+    let e : c .before .loop .counter ≡ vectors .result = omega arith in
+    let f = rw (e ∙ rw (tops .ensures) at (vectors .ensures)) at (c .before .loop .inv .2) in
     (ap (λ (b : Found). b .key) f, ap (λ (b : Found). b .tables) f)
 
 pub list-spec : {M : Type 1} → statement M

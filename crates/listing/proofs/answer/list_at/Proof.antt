@@ -38,12 +38,18 @@ loop-less : tie.Need-loop-less Inv-loop μ-loop
 loop-less c = search needs
 
 loop-again : tie.Need-loop-again Inv-loop μ-loop
-loop-again c = (search needs, c .before .before .before .before .before .before .before .loop .inv .1, rw (tables-more, c .turn .ensures, c .before .before .before .before .before .before .before .before .begin .ensures .1, c .before .before .before .before .before .before .before .loop .inv .2), found-step (keptOf (c .before .before .before .before .before .before .before .before .before .before .before .args .p) (c .before .before .before .before .before .before .before .before .before .before .before .args .s) (c .before .before .before .before .before .before .before .loop .tables)) _ _ _ _ (c .before .before .before .before .before .before .before .loop .inv .3) (c .before .before .before .kept .ensures .0) (c .before .before .before .kept .ensures .1) ∙ rw (turns-more, c .before .before .before .before .before .before .before .loop .inv .2))
+loop-again c =
+    let args = c .before .before .before .before .before .before .before .before .before .before .before .args in
+    let begin = c .before .before .before .before .before .before .before .before .begin in
+    let loop = c .before .before .before .before .before .before .before .loop in
+    let kept = c .before .before .before .kept in
+    (search needs, loop .inv .1, rw (tables-more, c .turn .ensures, begin .ensures .1, loop .inv .2), found-step (keptOf (args .p) (args .s) (loop .tables)) _ _ _ _ (loop .inv .3) (kept .ensures .0) (kept .ensures .1) ∙ rw (turns-more, loop .inv .2))
 
 returns : tie.Need-returns Inv-loop μ-loop
 unfolding listedAt
 returns c =
-    let e : c .before .loop .counter ≡ c .before .before .before .before .before .args .s .count = omega arith in
+    let args = c .before .before .before .before .before .args in
+    let e : c .before .loop .counter ≡ args .s .count = omega arith in
     let f = rw e at (c .before .loop .inv .3) in
     (ap (λ (b : Found). b .key) f, ap (λ (b : Found). b .tables) f)
 

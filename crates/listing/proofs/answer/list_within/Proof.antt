@@ -14,7 +14,8 @@ list-at-requires c κs = search needs
 returns : tie.Need-returns
 unfolding listedWithin
 returns c =
-    let e = sym (c .before .before .before .within .ensures) ∙ c .before .before .if1 .taken in
+    let within = c .before .before .before .within in
+    let e = sym (within .ensures) ∙ c .before .before .if1 .taken in
     (rw e (c .list-at .ensures .0), rw e (c .list-at .ensures .1))
 
 returns-2 : tie.Need-returns-2

@@ -20,13 +20,15 @@ add-past c = search needs
 returns : tie.Need-returns
 unfolding topOf
 returns c =
-    let e = rw (c .before .before .before .floor-of .ensures .0, c .before .before .ceiling-of .ensures .0) at (c .before .larger .ensures) in
+    let floor-of = c .before .before .before .floor-of in
+    let e = rw (floor-of .ensures .0, c .before .before .ceiling-of .ensures .0) at (c .before .larger .ensures) in
     rw (← e) (omega arith)
 
 returns-2 : tie.Need-returns-2
 unfolding topOf
 returns-2 c =
-    let e = rw (c .before .before .before .floor-of .ensures .0, c .before .before .ceiling-of .ensures .0) at (c .before .larger .ensures) in
+    let floor-of = c .before .before .before .floor-of in
+    let e = rw (floor-of .ensures .0, c .before .before .ceiling-of .ensures .0) at (c .before .larger .ensures) in
     rw (← e) (omega arith)
 
 pub top-spec : {M : Type 1} → statement M

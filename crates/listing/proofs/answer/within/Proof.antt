@@ -33,11 +33,14 @@ ceiling-of-requires c κs = search needs
 
 returns : tie.Need-returns Inv-loop μ-loop
 returns c =
+    let args = c .before .before .before .before .before .args in
+    let loop = c .before .before .before .before .loop in
+    let loop-test = c .before .before .before .loop-test in
     let x = c .before .before .size-of .ensures .0 in
-    let out = out-of-bounds (c .before .before .before .before .before .args .p) (c .before .before .before .before .before .args .s) (c .before .before .before .before .loop .k) (c .before .before .before .loop-test .taken) in
+    let out = out-of-bounds (args .p) (args .s) (loop .k) (loop-test .taken) in
     elim (c .if1 .came) [
-      | inl w ↦ sym (out (bounded-low (c .before .before .before .before .before .args .p) (c .before .before .before .before .before .args .s) (c .before .before .before .before .loop .k) _ _ 0 x (c .before .floor-of .ensures .0) (w .taken)))
-      | inr w ↦ sym (out (bounded-high (c .before .before .before .before .before .args .p) (c .before .before .before .before .before .args .s) (c .before .before .before .before .loop .k) _ 0 _ x (w .1 .ensures .0) (ltb-true _ _ (w .2 .taken))))
+      | inl w ↦ sym (out (bounded-low (args .p) (args .s) (loop .k) _ _ 0 x (c .before .floor-of .ensures .0) (w .taken)))
+      | inr w ↦ sym (out (bounded-high (args .p) (args .s) (loop .k) _ 0 _ x (w .1 .ensures .0) (ltb-true _ _ (w .2 .taken))))
     ]
 
 add-k : tie.Need-add-k Inv-loop μ-loop
@@ -47,7 +50,12 @@ loop-less : tie.Need-loop-less Inv-loop μ-loop
 loop-less c = search needs
 
 loop-again : tie.Need-loop-again Inv-loop μ-loop
-loop-again c = (search needs, every-more (c .before .before .before .before .before .before .loop .k) (bounded (c .before .before .before .before .before .before .before .args .p) (c .before .before .before .before .before .before .before .args .s)) (c .before .before .before .before .before .before .loop .inv .1) (bounded-both (c .before .before .before .before .before .before .before .args .p) (c .before .before .before .before .before .before .before .args .s) (c .before .before .before .before .before .before .loop .k) _ _ _ (c .before .before .before .before .size-of .ensures .0) (c .before .before .before .floor-of .ensures .0) (c .before .ceiling-of .ensures .0) (c .before .before .if1 .left) (ltb-false _ _ (c .if2 .left))))
+loop-again c =
+    let args = c .before .before .before .before .before .before .before .args in
+    let loop = c .before .before .before .before .before .before .loop in
+    let size-of = c .before .before .before .before .size-of in
+    let floor-of = c .before .before .before .floor-of in
+    (search needs, every-more (loop .k) (bounded (args .p) (args .s)) (loop .inv .1) (bounded-both (args .p) (args .s) (loop .k) _ _ _ (size-of .ensures .0) (floor-of .ensures .0) (c .before .ceiling-of .ensures .0) (c .before .before .if1 .left) (ltb-false _ _ (c .if2 .left))))
 
 sum-requires : tie.Need-sum-requires Inv-loop μ-loop
 sum-requires c κs = search needs
@@ -55,8 +63,10 @@ sum-requires c κs = search needs
 returns-2 : tie.Need-returns-2 Inv-loop μ-loop
 unfolding allBounded
 returns-2 c =
-    let e : c .before .before .before .loop .k ≡ c .before .before .before .before .args .p .sorts = omega arith in
-    rw (rw e at (c .before .before .before .loop .inv .1), c .before .sum .ensures)
+    let args = c .before .before .before .before .args in
+    let loop = c .before .before .before .loop in
+    let e : loop .k ≡ args .p .sorts = omega arith in
+    rw (rw e at (loop .inv .1), c .before .sum .ensures)
 
 pub within-spec : {M : Type 1} → statement M
 within-spec =

@@ -38,9 +38,11 @@ loop-less c = search needs
 loop-again : tie.Need-loop-again Inv-loop μ-loop
 unfolding markedPair
 loop-again c =
+    let loop = c .before .before .before .before .loop in
+    let code-of = c .before .before .code-of in
     elim (c .if1 .came) [
-      | inl w ↦ (search needs, w .3 ∙ w .2 .ensures ∙ rw (turns-more, ← c .before .before .code-of .ensures .0, ← c .before .code-of2 .ensures .0, ne-eqb _ _ (w .0 .taken), c .before .before .before .before .loop .inv .1))
-      | inr w ↦ (search needs, w .1 ∙ rw (turns-more, ← c .before .before .code-of .ensures .0, ← c .before .code-of2 .ensures .0, eq-eqb _ _ (w .0 .left)) (c .before .before .before .before .loop .inv .1))
+      | inl w ↦ (search needs, w .3 ∙ w .2 .ensures ∙ rw (turns-more, ← code-of .ensures .0, ← c .before .code-of2 .ensures .0, ne-eqb _ _ (w .0 .taken), loop .inv .1))
+      | inr w ↦ (search needs, w .1 ∙ rw (turns-more, ← code-of .ensures .0, ← c .before .code-of2 .ensures .0, eq-eqb _ _ (w .0 .left)) (loop .inv .1))
     ]
 
 returns : tie.Need-returns Inv-loop μ-loop

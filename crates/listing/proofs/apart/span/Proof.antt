@@ -34,23 +34,29 @@ loop-less c = search needs
 
 loop-again : tie.Need-loop-again Inv-loop μ-loop
 loop-again c =
-    let m = having-more (c .before .before .before .before .args .p) (c .before .before .before .before .args .sort) (c .before .before .before .loop .t) _ (c .before .sort-of .ensures .0) in
+    let args = c .before .before .before .before .args in
+    let loop = c .before .before .before .loop in
+    let m = having-more (args .p) (args .sort) (loop .t) _ (c .before .sort-of .ensures .0) in
     elim (c .if1 .came) [
-      | inl w ↦ (search needs, w .2 ∙ w .1 .ensures ∙ rw (m, eq-eqb _ _ (w .0 .taken), c .before .before .before .loop .inv .1))
-      | inr w ↦ (search needs, w .1 ∙ rw (m, ne-eqb _ _ (w .0 .left)) (c .before .before .before .loop .inv .1))
+      | inl w ↦ (search needs, w .2 ∙ w .1 .ensures ∙ rw (m, eq-eqb _ _ (w .0 .taken), loop .inv .1))
+      | inr w ↦ (search needs, w .1 ∙ rw (m, ne-eqb _ _ (w .0 .left)) (loop .inv .1))
     ]
 
 returns : tie.Need-returns Inv-loop μ-loop
 unfolding spanOf
 returns c =
-    let e : c .before .before .loop .t ≡ c .before .before .before .args .p .terms = omega arith in
-    rw (← rw e at (c .before .before .loop .inv .1), eq-eqb _ _ (c .if2 .taken))
+    let args = c .before .before .before .args in
+    let loop = c .before .before .loop in
+    let e : loop .t ≡ args .p .terms = omega arith in
+    rw (← rw e at (loop .inv .1), eq-eqb _ _ (c .if2 .taken))
 
 returns-2 : tie.Need-returns-2 Inv-loop μ-loop
 unfolding spanOf
 returns-2 c =
-    let e : c .before .before .loop .t ≡ c .before .before .before .args .p .terms = omega arith in
-    rw (← rw e at (c .before .before .loop .inv .1), ne-eqb _ _ (c .if2 .left))
+    let args = c .before .before .before .args in
+    let loop = c .before .before .loop in
+    let e : loop .t ≡ args .p .terms = omega arith in
+    rw (← rw e at (loop .inv .1), ne-eqb _ _ (c .if2 .left))
 
 pub span-spec : {M : Type 1} → statement M
 span-spec =

@@ -48,13 +48,19 @@ loop-less : tie.Need-loop-less Inv-loop μ-loop
 loop-less c = search needs
 
 loop-again : tie.Need-loop-again Inv-loop μ-loop
-loop-again c = (search needs, rw (sizes-more, c .next-sizes .ensures, c .before .before .before .before .before .before .before .spans .ensures, c .before .before .before .before .before .loop .inv .1), rw (turns-more, c .before .capped .ensures, c .before .before .plus .ensures, c .before .before .before .shaped .ensures, c .before .before .before .before .before .loop .inv .1, c .before .before .before .before .before .loop .inv .2))
+loop-again c =
+    let spans = c .before .before .before .before .before .before .before .spans in
+    let loop = c .before .before .before .before .before .loop in
+    let shaped = c .before .before .before .shaped in
+    (search needs, rw (sizes-more, c .next-sizes .ensures, spans .ensures, loop .inv .1), rw (turns-more, c .before .capped .ensures, c .before .before .plus .ensures, shaped .ensures, loop .inv .1, loop .inv .2))
 
 returns : tie.Need-returns Inv-loop μ-loop
 unfolding structuresOf
 returns c =
-    let e : c .before .loop .counter ≡ c .before .before .vectors .result = omega arith in
-    rw (e ∙ rw (c .before .before .before .spans .ensures) at (c .before .before .vectors .ensures)) at (c .before .loop .inv .2)
+    let spans = c .before .before .before .spans in
+    let vectors = c .before .before .vectors in
+    let e : c .before .loop .counter ≡ vectors .result = omega arith in
+    rw (e ∙ rw (spans .ensures) at (vectors .ensures)) at (c .before .loop .inv .2)
 
 pub structures-spec : {M : Type 1} → statement M
 structures-spec =

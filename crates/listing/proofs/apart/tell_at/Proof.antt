@@ -40,12 +40,18 @@ loop-less : tie.Need-loop-less Inv-loop μ-loop
 loop-less c = search needs
 
 loop-again : tie.Need-loop-again Inv-loop μ-loop
-loop-again c = (search needs, c .before .before .before .before .before .before .before .before .loop .inv .1, rw (tables-more, c .turn .ensures, c .before .before .before .before .before .before .before .before .before .begin .ensures .1, c .before .before .before .before .before .before .before .before .loop .inv .2), rw (turns-more, c .before .before .before .tell .ensures, c .before .before .before .before .before .evaluate .ensures, c .before .before .before .before .before .before .before .before .loop .inv .2, c .before .before .before .before .before .before .before .before .loop .inv .3))
+loop-again c =
+    let begin = c .before .before .before .before .before .before .before .before .before .begin in
+    let loop = c .before .before .before .before .before .before .before .before .loop in
+    let evaluate = c .before .before .before .before .before .evaluate in
+    let tell = c .before .before .before .tell in
+    (search needs, loop .inv .1, rw (tables-more, c .turn .ensures, begin .ensures .1, loop .inv .2), rw (turns-more, tell .ensures, evaluate .ensures, loop .inv .2, loop .inv .3))
 
 returns : tie.Need-returns Inv-loop μ-loop
 unfolding toldAt
 returns c =
-    let e : c .before .loop .counter ≡ c .before .before .before .before .before .args .s .count = omega arith in
+    let args = c .before .before .before .before .before .args in
+    let e : c .before .loop .counter ≡ args .s .count = omega arith in
     rw e at (c .before .loop .inv .3)
 
 pub tell-at-spec : {M : Type 1} → statement M

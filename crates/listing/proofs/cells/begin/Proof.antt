@@ -43,12 +43,17 @@ loop-less : tie.Need-loop-less Inv-loop μ-loop
 loop-less c = search needs
 
 loop-again : tie.Need-loop-again Inv-loop μ-loop
-loop-again c = (search needs, c .before .before .before .before .before .before .before .loop .inv .1, rw (turns-more, c .limits .ensures, c .before .before .before .before .start-of .ensures, c .before .before .before .end-of .ensures, c .before .size-of .ensures .0, c .before .before .result-of .ensures .0, c .before .before .before .before .before .before .before .loop .inv .2))
+loop-again c =
+    let loop = c .before .before .before .before .before .before .before .loop in
+    let start-of = c .before .before .before .before .start-of in
+    let end-of = c .before .before .before .end-of in
+    (search needs, loop .inv .1, rw (turns-more, c .limits .ensures, start-of .ensures, end-of .ensures, c .before .size-of .ensures .0, c .before .before .result-of .ensures .0, loop .inv .2))
 
 returns : tie.Need-returns Inv-loop μ-loop
 unfolding limitsOf
 returns c =
-    let e : c .before .loop .k ≡ c .before .before .before .before .args .p .symbols = omega arith in
+    let args = c .before .before .before .before .args in
+    let e : c .before .loop .k ≡ args .p .symbols = omega arith in
     (c .before .before .sizes-first .ensures, rw e at (c .before .loop .inv .2))
 
 pub begin-spec : {M : Type 1} → statement M

@@ -34,7 +34,10 @@ loop-less : tie.Need-loop-less Inv-loop μ-loop
 loop-less c = search needs
 
 loop-again : tie.Need-loop-again Inv-loop μ-loop
-loop-again c = (search needs, every-more (c .before .before .before .loop .k) (met (c .before .before .before .before .args .p) (c .before .before .before .before .args .codes)) (c .before .before .before .loop .inv .1) (sym (c .before .holds .ensures) ∙ not-false _ (c .if1 .left)))
+loop-again c =
+    let args = c .before .before .before .before .args in
+    let loop = c .before .before .before .loop in
+    (search needs, every-more (loop .k) (met (args .p) (args .codes)) (loop .inv .1) (sym (c .before .holds .ensures) ∙ not-false _ (c .if1 .left)))
 
 returns-2 : tie.Need-returns-2 Inv-loop μ-loop
 unfolding firstBroken

@@ -22,11 +22,19 @@ equal-of-requires c κs = search needs
 
 returns : tie.Need-returns
 unfolding met
-returns c = rw (rw (c .before .equal-of .ensures .0) at (eq-eqb _ _ (c .if1 .taken)), c .before .before .before .before .code-of .ensures .0, c .before .before .code-of2 .ensures .0, c .before .before .before .before .before .left-of .ensures .0, c .before .before .before .right-of .ensures .0)
+returns c =
+    let left-of = c .before .before .before .before .before .left-of in
+    let code-of = c .before .before .before .before .code-of in
+    let right-of = c .before .before .before .right-of in
+    rw (rw (c .before .equal-of .ensures .0) at (eq-eqb _ _ (c .if1 .taken)), code-of .ensures .0, c .before .before .code-of2 .ensures .0, left-of .ensures .0, right-of .ensures .0)
 
 returns-2 : tie.Need-returns-2
 unfolding met
-returns-2 c = rw (rw (c .before .equal-of .ensures .0) at (ne-eqb _ _ (c .if1 .left)), c .before .before .before .before .code-of .ensures .0, c .before .before .code-of2 .ensures .0, c .before .before .before .before .before .left-of .ensures .0, c .before .before .before .right-of .ensures .0)
+returns-2 c =
+    let left-of = c .before .before .before .before .before .left-of in
+    let code-of = c .before .before .before .before .code-of in
+    let right-of = c .before .before .before .right-of in
+    rw (rw (c .before .equal-of .ensures .0) at (ne-eqb _ _ (c .if1 .left)), code-of .ensures .0, c .before .before .code-of2 .ensures .0, left-of .ensures .0, right-of .ensures .0)
 
 pub holds-spec : {M : Type 1} → statement M
 holds-spec =

@@ -31,8 +31,10 @@ loop-less c = search needs
 
 loop-again : tie.Need-loop-again Inv-loop μ-loop
 loop-again c =
-    let l = c .before .before .before .loop in
-    let a = c .before .before .before .before .args in
+    let args = c .before .before .before .before .args in
+    let loop = c .before .before .before .loop in
+    let l = loop in
+    let a = args in
     let e : (l .i + 1) - a .from ≡ (l .i - a .from) + 1 = omega arith in
     let g : a .from + (l .i - a .from) ≡ l .i = omega arith in
     (omega arith, omega arith, rw (e, turns-more, g, c .store .ensures, l .inv .2))
@@ -40,7 +42,8 @@ loop-again c =
 returns : tie.Need-returns Inv-loop μ-loop
 unfolding limited
 returns c =
-    let e : c .before .loop .i - c .before .before .args .from ≡ c .before .before .args .to - c .before .before .args .from = omega arith in
+    let args = c .before .before .args in
+    let e : c .before .loop .i - args .from ≡ args .to - args .from = omega arith in
     rw e at (c .before .loop .inv .2)
 
 pub limits-spec : {M : Type 1} → statement M

@@ -30,8 +30,9 @@ element-write-digits c = search needs
 returns : tie.Need-returns
 unfolding rolledAt
 returns c =
-    let e = rw (c .before .before .before .before .wide .ensures .0, c .before .before .wide2 .ensures .0) at (lt-ltb _ _ (c .before .if1 .taken)) in
-    (sym e, rw (e, c .byte .ensures, c .before .before .before .before .wide .ensures .0))
+    let wide = c .before .before .before .before .wide in
+    let e = rw (wide .ensures .0, c .before .before .wide2 .ensures .0) at (lt-ltb _ _ (c .before .if1 .taken)) in
+    (sym e, rw (e, c .byte .ensures, wide .ensures .0))
 
 element-write-digits-2 : tie.Need-element-write-digits-2
 element-write-digits-2 c = search needs
@@ -39,7 +40,8 @@ element-write-digits-2 c = search needs
 returns-2 : tie.Need-returns-2
 unfolding rolledAt
 returns-2 c =
-    let e = rw (c .before .before .before .wide .ensures .0, c .before .wide2 .ensures .0) at (le-ltb _ _ (c .if1 .left)) in
+    let wide = c .before .before .before .wide in
+    let e = rw (wide .ensures .0, c .before .wide2 .ensures .0) at (le-ltb _ _ (c .if1 .left)) in
     (sym e, rw e)
 
 pub rolled-spec : {M : Type 1} → statement M

@@ -30,8 +30,12 @@ holds-requires c κs = search needs
 returns : tie.Need-returns Inv-loop μ-loop
 unfolding samesMet sameMet
 returns c =
-    let e = rw (c .before .before .before .equal-of .ensures .0) at (eq-eqb _ _ (c .before .before .if1 .taken)) in
-    sym (every-no (c .before .before .before .before .before .before .args .p .literals) (sameMet (c .before .before .before .before .before .before .args .p) (c .before .before .before .before .before .before .args .codes)) (c .before .before .before .before .before .loop .k) (c .before .before .before .before .loop-test .taken) (rw (e, ← c .before .holds .ensures) (not-true _ (c .if2 .taken))))
+    let args = c .before .before .before .before .before .before .args in
+    let loop = c .before .before .before .before .before .loop in
+    let loop-test = c .before .before .before .before .loop-test in
+    let equal-of = c .before .before .before .equal-of in
+    let e = rw (equal-of .ensures .0) at (eq-eqb _ _ (c .before .before .if1 .taken)) in
+    sym (every-no (args .p .literals) (sameMet (args .p) (args .codes)) (loop .k) (loop-test .taken) (rw (e, ← c .before .holds .ensures) (not-true _ (c .if2 .taken))))
 
 add-k : tie.Need-add-k Inv-loop μ-loop
 add-k c = search needs
@@ -42,7 +46,9 @@ loop-less c = search needs
 loop-again : tie.Need-loop-again Inv-loop μ-loop
 unfolding sameMet
 loop-again c =
-    let m = every-more (c .before .before .before .loop .k) (sameMet (c .before .before .before .before .args .p) (c .before .before .before .before .args .codes)) (c .before .before .before .loop .inv .1) in
+    let args = c .before .before .before .before .args in
+    let loop = c .before .before .before .loop in
+    let m = every-more (loop .k) (sameMet (args .p) (args .codes)) (loop .inv .1) in
     elim (c .if1 .came) [
       | inl w ↦ (search needs, m (rw (rw (c .before .equal-of .ensures .0) at (eq-eqb _ _ (w .0 .taken)), ← w .1 .ensures) (not-false _ (w .2 .left))))
       | inr w ↦ (search needs, m (rw (rw (c .before .equal-of .ensures .0) at (ne-eqb _ _ (w .left)))))

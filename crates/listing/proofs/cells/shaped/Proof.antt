@@ -37,15 +37,19 @@ add-s c = search needs
 returns : tie.Need-returns Inv-loop μ-loop
 unfolding shapeOf counted
 returns c =
-    let e : c .before .before .before .loop .k ≡ c .before .before .before .before .args .p .symbols = omega arith in
-    let f = rw e at (c .before .before .before .loop .inv .2) in
+    let args = c .before .before .before .before .args in
+    let loop = c .before .before .before .loop in
+    let e : loop .k ≡ args .p .symbols = omega arith in
+    let f = rw e at (loop .inv .2) in
     rw (← f, lt-ltb _ _ (c .if1 .taken))
 
 returns-2 : tie.Need-returns-2 Inv-loop μ-loop
 unfolding shapeOf counted
 returns-2 c =
-    let e : c .before .before .before .loop .k ≡ c .before .before .before .before .args .p .symbols = omega arith in
-    let f = rw e at (c .before .before .before .loop .inv .2) in
+    let args = c .before .before .before .before .args in
+    let loop = c .before .before .before .loop in
+    let e : loop .k ≡ args .p .symbols = omega arith in
+    let f = rw e at (loop .inv .2) in
     rw (← f, le-ltb _ _ (c .if1 .left))
 
 pub shaped-spec : {M : Type 1} → statement M

@@ -23,13 +23,19 @@ rolled-requires : tie.Need-rolled-requires Inv-loop μ-loop
 rolled-requires c κs = search needs
 
 returns : tie.Need-returns Inv-loop μ-loop
-returns c = c .before .rolled .ensures .1 ∙ sym (turned-up _ _ _ _ (c .before .before .before .loop-test .taken) (sym (c .before .rolled .ensures .0) ∙ c .if1 .taken)) ∙ c .before .before .before .before .loop .inv .1
+returns c =
+    let loop = c .before .before .before .before .loop in
+    let loop-test = c .before .before .before .loop-test in
+    c .before .rolled .ensures .1 ∙ sym (turned-up _ _ _ _ (loop-test .taken) (sym (c .before .rolled .ensures .0) ∙ c .if1 .taken)) ∙ loop .inv .1
 
 loop-less : tie.Need-loop-less Inv-loop μ-loop
 loop-less c = search needs
 
 loop-again : tie.Need-loop-again Inv-loop μ-loop
-loop-again c = (search needs, rw (c .before .rolled .ensures .1) (sym (turned-back _ _ _ _ (c .before .before .before .loop-test .taken) (sym (c .before .rolled .ensures .0) ∙ c .if1 .left)) ∙ c .before .before .before .before .loop .inv .1))
+loop-again c =
+    let loop = c .before .before .before .before .loop in
+    let loop-test = c .before .before .before .loop-test in
+    (search needs, rw (c .before .rolled .ensures .1) (sym (turned-back _ _ _ _ (loop-test .taken) (sym (c .before .rolled .ensures .0) ∙ c .if1 .left)) ∙ loop .inv .1))
 
 returns-2 : tie.Need-returns-2 Inv-loop μ-loop
 returns-2 c = sym (turned-none _ _ _ _ (c .loop-test .left)) ∙ c .before .loop .inv .1

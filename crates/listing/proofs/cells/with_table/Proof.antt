@@ -51,7 +51,16 @@ plus-requires c κs = search needs
 
 returns : tie.Need-returns
 unfolding withTable
-returns c = rw (c .plus .ensures, c .before .grown .ensures, c .before .before .before .before .times .ensures .0, c .before .before .size-of .ensures .0, c .before .before .before .result-of .ensures .0, c .before .before .before .before .before .before .before .before .side .ensures, c .before .before .before .before .before .side2 .ensures, c .before .before .before .before .before .before .before .before .before .before .arity-of .ensures .0, c .before .before .before .before .before .before .before .arity-of2 .ensures .0, c .before .before .before .before .before .before .before .before .before .param0-of .ensures .0, c .before .before .before .before .before .before .param1-of .ensures .0)
+returns c =
+    let arity-of = c .before .before .before .before .before .before .before .before .before .before .arity-of in
+    let param0-of = c .before .before .before .before .before .before .before .before .before .param0-of in
+    let side = c .before .before .before .before .before .before .before .before .side in
+    let arity-of2 = c .before .before .before .before .before .before .before .arity-of2 in
+    let param1-of = c .before .before .before .before .before .before .param1-of in
+    let side2 = c .before .before .before .before .before .side2 in
+    let times = c .before .before .before .before .times in
+    let result-of = c .before .before .before .result-of in
+    rw (c .plus .ensures, c .before .grown .ensures, times .ensures .0, c .before .before .size-of .ensures .0, result-of .ensures .0, side .ensures, side2 .ensures, arity-of .ensures .0, arity-of2 .ensures .0, param0-of .ensures .0, param1-of .ensures .0)
 
 pub with-table-spec : {M : Type 1} → statement M
 with-table-spec =

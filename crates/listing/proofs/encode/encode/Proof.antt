@@ -24,11 +24,16 @@ record-requires c κs = search needs
 returns : tie.Need-returns
 unfolding putSheet
 returns c =
-    let a = text-step (putSorts (c .before .before .before .before .before .before .before .before .before .before .args .p)) _ _ _ _ refl (c .before .before .before .before .before .before .before .before .sorts .ensures .0) (c .before .before .before .before .before .before .before .before .sorts .ensures .1) in
-    let b = text-step (putSymbols (c .before .before .before .before .before .before .before .before .before .before .args .p)) _ _ _ _ a (c .before .before .before .before .before .before .symbols .ensures .0) (c .before .before .before .before .before .before .symbols .ensures .1) in
-    let d = text-step (putTerms (c .before .before .before .before .before .before .before .before .before .before .args .p)) _ _ _ _ b (c .before .before .before .before .terms .ensures .0) (c .before .before .before .before .terms .ensures .1) in
-    let e = text-step (putLiterals (c .before .before .before .before .before .before .before .before .before .before .args .p)) _ _ _ _ d (c .before .before .literals .ensures .0) (c .before .before .literals .ensures .1) in
-    let f = text-step (putRecord 6 1 (c .before .before .before .before .before .before .before .before .before .before .args .p .total) 0 0) _ _ _ _ e (c .«record» .ensures .0) (c .«record» .ensures .1) in
+    let args = c .before .before .before .before .before .before .before .before .before .before .args in
+    let sorts = c .before .before .before .before .before .before .before .before .sorts in
+    let symbols = c .before .before .before .before .before .before .symbols in
+    let terms = c .before .before .before .before .terms in
+    let literals = c .before .before .literals in
+    let a = text-step (putSorts (args .p)) _ _ _ _ refl (sorts .ensures .0) (sorts .ensures .1) in
+    let b = text-step (putSymbols (args .p)) _ _ _ _ a (symbols .ensures .0) (symbols .ensures .1) in
+    let d = text-step (putTerms (args .p)) _ _ _ _ b (terms .ensures .0) (terms .ensures .1) in
+    let e = text-step (putLiterals (args .p)) _ _ _ _ d (literals .ensures .0) (literals .ensures .1) in
+    let f = text-step (putRecord 6 1 (args .p .total) 0 0) _ _ _ _ e (c .«record» .ensures .0) (c .«record» .ensures .1) in
     (ap (λ (t : Text). t .at) f, ap (λ (t : Text). t .bytes) f, search needs)
 
 pub encode-spec : {M : Type 1} → statement M

@@ -41,7 +41,12 @@ loop-less : tie.Need-loop-less Inv-loop μ-loop
 loop-less c = search needs
 
 loop-again : tie.Need-loop-again Inv-loop μ-loop
-loop-again c = (search needs, text-step (putRecord (c .before .before .before .kind .result) 2 (c .before .before .left-of .result) (c .before .right-of .result) 0) _ _ _ _ (c .before .before .before .before .before .before .before .loop .inv .1) (c .«record» .ensures .0) (c .«record» .ensures .1) ∙ rw (turns-more, c .before .before .before .kind .ensures, c .before .before .before .before .equal-of .ensures .0, c .before .before .left-of .ensures .0, c .before .right-of .ensures .0))
+loop-again c =
+    let loop = c .before .before .before .before .before .before .before .loop in
+    let equal-of = c .before .before .before .before .equal-of in
+    let kind = c .before .before .before .kind in
+    let left-of = c .before .before .left-of in
+    (search needs, text-step (putRecord (kind .result) 2 (left-of .result) (c .before .right-of .result) 0) _ _ _ _ (loop .inv .1) (c .«record» .ensures .0) (c .«record» .ensures .1) ∙ rw (turns-more, kind .ensures, equal-of .ensures .0, left-of .ensures .0, c .before .right-of .ensures .0))
 
 returns : tie.Need-returns Inv-loop μ-loop
 unfolding putLiterals

@@ -35,7 +35,10 @@ loop-less : tie.Need-loop-less Inv-loop μ-loop
 loop-less c = search needs
 
 loop-again : tie.Need-loop-again Inv-loop μ-loop
-loop-again c = (search needs, text-step (putRecord 1 2 (c .before .before .floor-of .result) (c .before .ceiling-of .result) 0) _ _ _ _ (c .before .before .before .before .before .loop .inv .1) (c .«record» .ensures .0) (c .«record» .ensures .1) ∙ rw (turns-more, c .before .before .floor-of .ensures .0, c .before .ceiling-of .ensures .0))
+loop-again c =
+    let loop = c .before .before .before .before .before .loop in
+    let floor-of = c .before .before .floor-of in
+    (search needs, text-step (putRecord 1 2 (floor-of .result) (c .before .ceiling-of .result) 0) _ _ _ _ (loop .inv .1) (c .«record» .ensures .0) (c .«record» .ensures .1) ∙ rw (turns-more, floor-of .ensures .0, c .before .ceiling-of .ensures .0))
 
 returns : tie.Need-returns Inv-loop μ-loop
 unfolding putSorts

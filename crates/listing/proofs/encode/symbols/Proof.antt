@@ -44,7 +44,12 @@ loop-less : tie.Need-loop-less Inv-loop μ-loop
 loop-less c = search needs
 
 loop-again : tie.Need-loop-again Inv-loop μ-loop
-loop-again c = (search needs, text-step (putRecord 2 (1 + c .before .before .before .before .arity-of .result) (c .before .before .before .result-of .result) (c .before .before .param0-of .result) (c .before .param1-of .result)) _ _ _ _ (c .before .before .before .before .before .before .before .loop .inv .1) (c .«record» .ensures .0) (c .«record» .ensures .1) ∙ rw (turns-more, c .before .before .before .before .arity-of .ensures .0, c .before .before .before .result-of .ensures .0, c .before .before .param0-of .ensures .0, c .before .param1-of .ensures .0))
+loop-again c =
+    let loop = c .before .before .before .before .before .before .before .loop in
+    let arity-of = c .before .before .before .before .arity-of in
+    let result-of = c .before .before .before .result-of in
+    let param0-of = c .before .before .param0-of in
+    (search needs, text-step (putRecord 2 (1 + arity-of .result) (result-of .result) (param0-of .result) (c .before .param1-of .result)) _ _ _ _ (loop .inv .1) (c .«record» .ensures .0) (c .«record» .ensures .1) ∙ rw (turns-more, arity-of .ensures .0, result-of .ensures .0, param0-of .ensures .0, c .before .param1-of .ensures .0))
 
 returns : tie.Need-returns Inv-loop μ-loop
 unfolding putSymbols

@@ -44,7 +44,12 @@ loop-less : tie.Need-loop-less Inv-loop μ-loop
 loop-less c = search needs
 
 loop-again : tie.Need-loop-again Inv-loop μ-loop
-loop-again c = (search needs, text-step (putRecord 3 (1 + c .before .before .before .arity-of .result) (c .before .before .before .before .before .symbol-of .result) (c .before .before .arg0-of .result) (c .before .arg1-of .result)) _ _ _ _ (c .before .before .before .before .before .before .before .loop .inv .1) (c .«record» .ensures .0) (c .«record» .ensures .1) ∙ rw (turns-more, c .before .before .before .arity-of .ensures .0, c .before .before .before .before .before .symbol-of .ensures .0, c .before .before .arg0-of .ensures .0, c .before .arg1-of .ensures .0))
+loop-again c =
+    let loop = c .before .before .before .before .before .before .before .loop in
+    let symbol-of = c .before .before .before .before .before .symbol-of in
+    let arity-of = c .before .before .before .arity-of in
+    let arg0-of = c .before .before .arg0-of in
+    (search needs, text-step (putRecord 3 (1 + arity-of .result) (symbol-of .result) (arg0-of .result) (c .before .arg1-of .result)) _ _ _ _ (loop .inv .1) (c .«record» .ensures .0) (c .«record» .ensures .1) ∙ rw (turns-more, arity-of .ensures .0, symbol-of .ensures .0, arg0-of .ensures .0, c .before .arg1-of .ensures .0))
 
 returns : tie.Need-returns Inv-loop μ-loop
 unfolding putTerms

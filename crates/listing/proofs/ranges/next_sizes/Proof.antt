@@ -33,7 +33,11 @@ with-size-requires : tie.Need-with-size-requires Inv-loop μ-loop
 with-size-requires c κs = search needs
 
 returns : tie.Need-returns Inv-loop μ-loop
-returns c = c .with-size .ensures ∙ sym (after-up _ _ _ _ _ (c .before .before .before .before .loop-test .taken) (c .before .before .before .size-at .ensures .0) (c .before .before .size-at2 .ensures .0) (c .before .if1 .taken)) ∙ c .before .before .before .before .before .loop .inv .1
+returns c =
+    let loop = c .before .before .before .before .before .loop in
+    let loop-test = c .before .before .before .before .loop-test in
+    let size-at = c .before .before .before .size-at in
+    c .with-size .ensures ∙ sym (after-up _ _ _ _ _ (loop-test .taken) (size-at .ensures .0) (c .before .before .size-at2 .ensures .0) (c .before .if1 .taken)) ∙ loop .inv .1
 
 with-size-requires-2 : tie.Need-with-size-requires-2 Inv-loop μ-loop
 with-size-requires-2 c κs = search needs
@@ -42,7 +46,11 @@ loop-less : tie.Need-loop-less Inv-loop μ-loop
 loop-less c = search needs
 
 loop-again : tie.Need-loop-again Inv-loop μ-loop
-loop-again c = (search needs, rw (c .with-size2 .ensures) (sym (after-back _ _ _ _ _ (c .before .before .before .before .loop-test .taken) (c .before .before .before .size-at .ensures .0) (c .before .before .size-at2 .ensures .0) (c .before .if1 .left)) ∙ c .before .before .before .before .before .loop .inv .1))
+loop-again c =
+    let loop = c .before .before .before .before .before .loop in
+    let loop-test = c .before .before .before .before .loop-test in
+    let size-at = c .before .before .before .size-at in
+    (search needs, rw (c .with-size2 .ensures) (sym (after-back _ _ _ _ _ (loop-test .taken) (size-at .ensures .0) (c .before .before .size-at2 .ensures .0) (c .before .if1 .left)) ∙ loop .inv .1))
 
 returns-2 : tie.Need-returns-2 Inv-loop μ-loop
 unfolding after

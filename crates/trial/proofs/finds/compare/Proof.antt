@@ -40,10 +40,17 @@ too-short-requires c κs = search needs
 returns : tie.Need-returns
 unfolding findsCounted
 returns c =
-    let o = rw (c .before .before .before .before .before .before .before .before .before .before .before .before .before .before .wanted .ensures, c .before .before .before .before .before .before .before .before .before .before .before .before .before .before .before .list .ensures .0) at (c .before .before .before .before .before .before .outcome .ensures) in
-    rw (c .too-short .ensures, c .before .before .before .expect .ensures)
-    (ap (shortCounted (c .before .before .before .before .before .before .before .before .before .before .before .before .before .before .before .before .before .before .args .p .terms) (c .before .before .before .before .before .before .before .before .before .before .before .before .shaped .result .length)) (besides-expected _ _ _ (rw (c .before .before .before .before .before .before .outcome .ensures) (find-outcome (c .before .before .before .before .before .before .before .before .before .before .before .before .before .before .wanted .result .number))))
-    ∙ rw (c .before .before .before .before .before .before .before .before .before .before .before .before .shaped .ensures, o, c .before .before .before .before .before .before .before .add .ensures, besides-added 5 1 (c .before .before .before .before .before .before .before .before .before .before .before .before .before .before .before .before .before .before .args .counts .now) (λ h. omega arith)))
+    let args = c .before .before .before .before .before .before .before .before .before .before .before .before .before .before .before .before .before .before .args in
+    let list = c .before .before .before .before .before .before .before .before .before .before .before .before .before .before .before .list in
+    let wanted = c .before .before .before .before .before .before .before .before .before .before .before .before .before .before .wanted in
+    let shaped = c .before .before .before .before .before .before .before .before .before .before .before .before .shaped in
+    let add = c .before .before .before .before .before .before .before .add in
+    let outcome = c .before .before .before .before .before .before .outcome in
+    let expect = c .before .before .before .expect in
+    let o = rw (wanted .ensures, list .ensures .0) at (outcome .ensures) in
+    rw (c .too-short .ensures, expect .ensures)
+    (ap (shortCounted (args .p .terms) (shaped .result .length)) (besides-expected _ _ _ (rw (outcome .ensures) (find-outcome (wanted .result .number))))
+    ∙ rw (shaped .ensures, o, add .ensures, besides-added 5 1 (args .counts .now) (λ h. omega arith)))
 
 pub compare-spec : {M : Type 1} → statement M
 compare-spec =

@@ -43,16 +43,21 @@ expect-requires-2 c κs = search needs
 returns : tie.Need-returns
 unfolding shortCounted addedIf
 returns c =
-    let m : besides (c .before .before .before .before .before .before .before .before .if1 .counts) ≡ addedIf 9 (ltb 0 (c .before .before .before .before .before .before .before .before .before .before .before .args .exact .codes)) (besides (c .before .before .before .before .before .before .before .before .before .before .before .args .counts .now)) = elim (c .before .before .before .before .before .before .before .before .if1 .came) [
+    let args = c .before .before .before .before .before .before .before .before .before .before .before .args in
+    let if1 = c .before .before .before .before .before .before .before .before .if1 in
+    let if2 = c .before .before .before .before .before .before .if2 in
+    let m : besides (if1 .counts) ≡ addedIf 9 (ltb 0 (args .exact .codes)) (besides (args .counts .now)) = elim (if1 .came) [
       | inl w ↦ rw (w .7, w .6 .ensures, lt-ltb _ _ (w .0 .taken)) (besides-expected _ 9 _ (λ h. omega arith))
       | inr w ↦ rw (w .1, le-ltb _ _ (w .0 .left))
     ] in
-    rw (c .expect2 .ensures) (besides-expected _ 9 _ (λ h. omega arith) ∙ rw (lt-ltb _ _ (c .before .before .before .before .before .before .if2 .taken), m))
+    rw (c .expect2 .ensures) (besides-expected _ 9 _ (λ h. omega arith) ∙ rw (lt-ltb _ _ (if2 .taken), m))
 
 returns-2 : tie.Need-returns-2
 unfolding shortCounted addedIf
 returns-2 c =
-    let m : besides (c .before .before .if1 .counts) ≡ addedIf 9 (ltb 0 (c .before .before .before .before .before .args .exact .codes)) (besides (c .before .before .before .before .before .args .counts .now)) = elim (c .before .before .if1 .came) [
+    let args = c .before .before .before .before .before .args in
+    let if1 = c .before .before .if1 in
+    let m : besides (if1 .counts) ≡ addedIf 9 (ltb 0 (args .exact .codes)) (besides (args .counts .now)) = elim (if1 .came) [
       | inl w ↦ rw (w .7, w .6 .ensures, lt-ltb _ _ (w .0 .taken)) (besides-expected _ 9 _ (λ h. omega arith))
       | inr w ↦ rw (w .1, le-ltb _ _ (w .0 .left))
     ] in

@@ -43,8 +43,12 @@ with-each-requires-2 c κs = search needs
 returns : tie.Need-returns Inv-loop μ-loop
 unfolding forcesCounted
 returns c =
-    let e : c .before .before .before .before .loop .a ≡ c .before .before .before .before .before .before .before .before .before .before .args .p .terms = omega arith in
-    rw (c .with-each2 .ensures, rw e at (c .before .before .before .before .loop .inv .1), c .before .before .before .before .before .add .ensures, besides-added 14 1 (c .before .before .before .before .before .before .before .before .before .before .args .counts .now) (λ h. omega arith), c .before .before .before .before .before .before .before .tell-apart .ensures)
+    let args = c .before .before .before .before .before .before .before .before .before .before .args in
+    let tell-apart = c .before .before .before .before .before .before .before .tell-apart in
+    let add = c .before .before .before .before .before .add in
+    let loop = c .before .before .before .before .loop in
+    let e : loop .a ≡ args .p .terms = omega arith in
+    rw (c .with-each2 .ensures, rw e at (loop .inv .1), add .ensures, besides-added 14 1 (args .counts .now) (λ h. omega arith), tell-apart .ensures)
 
 pub compare-spec : {M : Type 1} → statement M
 compare-spec =

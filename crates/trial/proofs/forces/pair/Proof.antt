@@ -21,7 +21,8 @@ expect-requires c κs = search needs
 returns : tie.Need-returns
 unfolding pairOutcome
 returns c =
-    elim (c .before .before .before .if1 .came) [
+    let if1 = c .before .before .before .if1 in
+    elim (if1 .came) [
       | inl w ↦ rw (c .expect .ensures) (besides-expected _ 18 _ (λ h. omega arith) ∙ rw (le-leb _ _ (w .taken)))
       | inr w ↦ rw (c .expect .ensures) (besides-expected _ 18 _ (λ h. omega arith) ∙ rw (lt-leb _ _ (w .0 .left), w .2 .taken))
     ]
@@ -40,7 +41,13 @@ expect-requires-2 c κs = search needs
 
 returns-2 : tie.Need-returns-2
 unfolding pairOutcome
-returns-2 c = rw (c .expect2 .ensures) (besides-expected _ 18 _ (λ h. omega arith) ∙ rw (lt-leb _ _ (c .before .before .before .before .before .before .before .before .if1 .left), c .before .before .before .before .before .before .if2 .left, rw (c .before .before .before .before .before .sort-of .ensures .0, c .before .before .before .before .sort-of2 .ensures .0) at (ne-eqb _ _ (c .before .before .before .if3 .taken))))
+returns-2 c =
+    let if1 = c .before .before .before .before .before .before .before .before .if1 in
+    let if2 = c .before .before .before .before .before .before .if2 in
+    let sort-of = c .before .before .before .before .before .sort-of in
+    let sort-of2 = c .before .before .before .before .sort-of2 in
+    let if3 = c .before .before .before .if3 in
+    rw (c .expect2 .ensures) (besides-expected _ 18 _ (λ h. omega arith) ∙ rw (lt-leb _ _ (if1 .left), if2 .left, rw (sort-of .ensures .0, sort-of2 .ensures .0) at (ne-eqb _ _ (if3 .taken))))
 
 together-requires : tie.Need-together-requires
 together-requires c κs = search needs
@@ -53,7 +60,15 @@ expect-requires-3 c κs = search needs
 
 returns-3 : tie.Need-returns-3
 unfolding pairOutcome
-returns-3 c = rw (c .expect3 .ensures) (besides-expected _ 16 _ (λ h. omega arith) ∙ rw (lt-leb _ _ (c .before .before .before .before .before .before .before .before .before .before .if1 .left), c .before .before .before .before .before .before .before .before .if2 .left, rw (c .before .before .before .before .before .before .before .sort-of .ensures .0, c .before .before .before .before .before .before .sort-of2 .ensures .0) at (eq-eqb _ _ (c .before .before .before .before .before .if3 .left)), sym (c .before .before .before .before .together .ensures) ∙ c .before .before .before .if4 .taken))
+returns-3 c =
+    let if1 = c .before .before .before .before .before .before .before .before .before .before .if1 in
+    let if2 = c .before .before .before .before .before .before .before .before .if2 in
+    let sort-of = c .before .before .before .before .before .before .before .sort-of in
+    let sort-of2 = c .before .before .before .before .before .before .sort-of2 in
+    let if3 = c .before .before .before .before .before .if3 in
+    let together = c .before .before .before .before .together in
+    let if4 = c .before .before .before .if4 in
+    rw (c .expect3 .ensures) (besides-expected _ 16 _ (λ h. omega arith) ∙ rw (lt-leb _ _ (if1 .left), if2 .left, rw (sort-of .ensures .0, sort-of2 .ensures .0) at (eq-eqb _ _ (if3 .left)), sym (together .ensures) ∙ if4 .taken))
 
 slice-aggregate-expect-4 : tie.Need-slice-aggregate-expect-4
 slice-aggregate-expect-4 c = search needs
@@ -63,7 +78,15 @@ expect-requires-4 c κs = search needs
 
 returns-4 : tie.Need-returns-4
 unfolding pairOutcome
-returns-4 c = rw (c .expect4 .ensures) (besides-expected _ 17 _ (λ h. omega arith) ∙ rw (lt-leb _ _ (c .before .before .before .before .before .before .before .before .before .before .if1 .left), c .before .before .before .before .before .before .before .before .if2 .left, rw (c .before .before .before .before .before .before .before .sort-of .ensures .0, c .before .before .before .before .before .before .sort-of2 .ensures .0) at (eq-eqb _ _ (c .before .before .before .before .before .if3 .left)), sym (c .before .before .before .before .together .ensures) ∙ c .before .before .before .if4 .left))
+returns-4 c =
+    let if1 = c .before .before .before .before .before .before .before .before .before .before .if1 in
+    let if2 = c .before .before .before .before .before .before .before .before .if2 in
+    let sort-of = c .before .before .before .before .before .before .before .sort-of in
+    let sort-of2 = c .before .before .before .before .before .before .sort-of2 in
+    let if3 = c .before .before .before .before .before .if3 in
+    let together = c .before .before .before .before .together in
+    let if4 = c .before .before .before .if4 in
+    rw (c .expect4 .ensures) (besides-expected _ 17 _ (λ h. omega arith) ∙ rw (lt-leb _ _ (if1 .left), if2 .left, rw (sort-of .ensures .0, sort-of2 .ensures .0) at (eq-eqb _ _ (if3 .left)), sym (together .ensures) ∙ if4 .left))
 
 pub pair-spec : {M : Type 1} → statement M
 pair-spec =

@@ -36,8 +36,9 @@ loop-again c = (search needs, rw (turns-more, c .pair .ensures, c .before .befor
 returns : tie.Need-returns Inv-loop μ-loop
 unfolding eachCounted
 returns c =
-    let e : c .before .loop .b ≡ c .before .before .plus .result = omega arith in
-    rw (e ∙ c .before .before .plus .ensures) at (c .before .loop .inv .1)
+    let plus = c .before .before .plus in
+    let e : c .before .loop .b ≡ plus .result = omega arith in
+    rw (e ∙ plus .ensures) at (c .before .loop .inv .1)
 
 pub with-each-spec : {M : Type 1} → statement M
 with-each-spec =

@@ -31,14 +31,20 @@ damaged-requires-2 c κs = search needs
 
 returns-2 : tie.Need-returns-2
 unfolding sizesCounted
-returns-2 c = rw (sym (c .before .before .before .before .before .before .before .within .ensures) ∙ c .before .before .before .before .before .before .if1 .left, lt-ltb _ _ (c .before .before .before .before .before .if2 .taken), c .before .before .before .before .if3 .taken, c .damaged2 .ensures, c .before .before .first-tables .ensures)
+returns-2 c =
+    let within = c .before .before .before .before .before .before .before .within in
+    let if1 = c .before .before .before .before .before .before .if1 in
+    let if2 = c .before .before .before .before .before .if2 in
+    let if3 = c .before .before .before .before .if3 in
+    rw (sym (within .ensures) ∙ if1 .left, lt-ltb _ _ (if2 .taken), if3 .taken, c .damaged2 .ensures, c .before .before .first-tables .ensures)
 
 returns-3 : tie.Need-returns-3
 unfolding sizesCounted
 returns-3 c =
+    let within = c .before .before .within in
     elim (c .if2 .came) [
-      | inl w ↦ rw (sym (c .before .before .within .ensures) ∙ c .before .if1 .left, lt-ltb _ _ (w .0 .taken), w .1 .left)
-      | inr w ↦ rw (sym (c .before .before .within .ensures) ∙ c .before .if1 .left, le-ltb _ _ (w .left))
+      | inl w ↦ rw (sym (within .ensures) ∙ c .before .if1 .left, lt-ltb _ _ (w .0 .taken), w .1 .left)
+      | inr w ↦ rw (sym (within .ensures) ∙ c .before .if1 .left, le-ltb _ _ (w .left))
     ]
 
 pub at-sizes-spec : {M : Type 1} → statement M

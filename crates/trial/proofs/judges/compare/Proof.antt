@@ -51,17 +51,22 @@ loop-less c = search needs
 loop-again : tie.Need-loop-again Inv-loop μ-loop
 unfolding shapeCounted
 loop-again c =
-    let s = rw (c .before .before .before .before .before .loop .inv .1) at (c .before .before .before .shaped .ensures) in
+    let tops = c .before .before .before .before .before .before .before .tops in
+    let loop = c .before .before .before .before .before .loop in
+    let shaped = c .before .before .before .shaped in
+    let s = rw (loop .inv .1) at (shaped .ensures) in
     elim (c .before .if1 .came) [
-      | inl w ↦ (search needs, rw (sizes-more, c .next-sizes .ensures, c .before .before .before .before .before .before .before .tops .ensures, c .before .before .before .before .before .loop .inv .1), rw (w .3, turns-more, ← s, lt-ltb _ _ (w .0 .taken), w .2 .ensures, c .before .before .before .before .before .loop .inv .2))
-      | inr w ↦ (search needs, rw (sizes-more, c .next-sizes .ensures, c .before .before .before .before .before .before .before .tops .ensures, c .before .before .before .before .before .loop .inv .1), rw (w .1, turns-more, ← s, le-ltb _ _ (w .0 .left)) (c .before .before .before .before .before .loop .inv .2))
+      | inl w ↦ (search needs, rw (sizes-more, c .next-sizes .ensures, tops .ensures, loop .inv .1), rw (w .3, turns-more, ← s, lt-ltb _ _ (w .0 .taken), w .2 .ensures, loop .inv .2))
+      | inr w ↦ (search needs, rw (sizes-more, c .next-sizes .ensures, tops .ensures, loop .inv .1), rw (w .1, turns-more, ← s, le-ltb _ _ (w .0 .left)) (loop .inv .2))
     ]
 
 returns : tie.Need-returns Inv-loop μ-loop
 unfolding judgesCounted
 returns c =
-    let e : c .before .loop .v ≡ c .before .before .vectors .result = omega arith in
-    rw (e, rw (c .before .before .before .tops .ensures) at (c .before .before .vectors .ensures)) at (c .before .loop .inv .2)
+    let tops = c .before .before .before .tops in
+    let vectors = c .before .before .vectors in
+    let e : c .before .loop .v ≡ vectors .result = omega arith in
+    rw (e, rw (tops .ensures) at (vectors .ensures)) at (c .before .loop .inv .2)
 
 pub compare-spec : {M : Type 1} → statement M
 compare-spec =

@@ -35,8 +35,12 @@ expect-requires c κs = search needs
 returns : tie.Need-returns
 unfolding tableCounted
 returns c =
-    let e = rw (c .before .before .before .before .before .before .first-broken .ensures, c .before .before .before .before .before .before .before .evaluate .ensures) at (lt-ltb _ _ (c .before .before .before .before .if1 .taken)) in
-    rw (c .expect .ensures) (besides-expected _ 12 _ (λ h. omega arith) ∙ rw (e, c .before .before .before .before .before .before .before .before .before .before .compare .ensures))
+    let compare = c .before .before .before .before .before .before .before .before .before .before .compare in
+    let evaluate = c .before .before .before .before .before .before .before .evaluate in
+    let first-broken = c .before .before .before .before .before .before .first-broken in
+    let if1 = c .before .before .before .before .if1 in
+    let e = rw (first-broken .ensures, evaluate .ensures) at (lt-ltb _ _ (if1 .taken)) in
+    rw (c .expect .ensures) (besides-expected _ 12 _ (λ h. omega arith) ∙ rw (e, compare .ensures))
 
 slice-aggregate-expect-2 : tie.Need-slice-aggregate-expect-2
 slice-aggregate-expect-2 c = search needs
@@ -47,8 +51,12 @@ expect-requires-2 c κs = search needs
 returns-2 : tie.Need-returns-2
 unfolding tableCounted
 returns-2 c =
-    let e = rw (c .before .before .before .before .before .first-broken .ensures, c .before .before .before .before .before .before .evaluate .ensures) at (le-ltb _ _ (c .before .before .before .if1 .left)) in
-    rw (c .expect2 .ensures) (besides-expected _ 10 _ (λ h. omega arith) ∙ rw (e, c .before .before .before .before .before .before .before .before .before .compare .ensures))
+    let compare = c .before .before .before .before .before .before .before .before .before .compare in
+    let evaluate = c .before .before .before .before .before .before .evaluate in
+    let first-broken = c .before .before .before .before .before .first-broken in
+    let if1 = c .before .before .before .if1 in
+    let e = rw (first-broken .ensures, evaluate .ensures) at (le-ltb _ _ (if1 .left)) in
+    rw (c .expect2 .ensures) (besides-expected _ 10 _ (λ h. omega arith) ∙ rw (e, compare .ensures))
 
 pub one-table-spec : {M : Type 1} → statement M
 one-table-spec =

@@ -47,15 +47,19 @@ loop-less c = search needs
 loop-again : tie.Need-loop-again Inv-loop μ-loop
 unfolding someTable
 loop-again c =
-    elim (c .before .before .before .if1 .came) [
-      | inl w ↦ (search needs, rw (tables-more, c .turn .ensures, c .before .before .before .before .before .before .begin .ensures .1, c .before .before .before .before .before .loop .inv .1), rw (w .4, turns-more, eq-eqb _ _ (w .0 .taken), w .3 .ensures, c .before .before .before .before .before .loop .inv .1, c .before .before .before .before .before .loop .inv .2))
-      | inr w ↦ (search needs, rw (tables-more, c .turn .ensures, c .before .before .before .before .before .before .begin .ensures .1, c .before .before .before .before .before .loop .inv .1), rw (w .1, turns-more, ne-eqb _ _ (w .0 .left)) (c .before .before .before .before .before .loop .inv .2))
+    let begin = c .before .before .before .before .before .before .begin in
+    let loop = c .before .before .before .before .before .loop in
+    let if1 = c .before .before .before .if1 in
+    elim (if1 .came) [
+      | inl w ↦ (search needs, rw (tables-more, c .turn .ensures, begin .ensures .1, loop .inv .1), rw (w .4, turns-more, eq-eqb _ _ (w .0 .taken), w .3 .ensures, loop .inv .1, loop .inv .2))
+      | inr w ↦ (search needs, rw (tables-more, c .turn .ensures, begin .ensures .1, loop .inv .1), rw (w .1, turns-more, ne-eqb _ _ (w .0 .left)) (loop .inv .2))
     ]
 
 returns : tie.Need-returns Inv-loop μ-loop
 unfolding someCounted
 returns c =
-    let e : c .before .loop .i ≡ c .before .before .before .before .before .before .args .s .count = omega arith in
+    let args = c .before .before .before .before .before .before .args in
+    let e : c .before .loop .i ≡ args .s .count = omega arith in
     rw e at (c .before .loop .inv .2)
 
 pub some-tables-spec : {M : Type 1} → statement M

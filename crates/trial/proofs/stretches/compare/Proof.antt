@@ -39,8 +39,10 @@ nothing-requires c κs = search needs
 returns : tie.Need-returns Inv-loop μ-loop
 unfolding stretchesCounted
 returns c =
-    let e : c .before .before .before .before .loop .k ≡ c .before .before .before .before .before .before .args .p .symbols = omega arith in
-    rw (c .nothing .ensures, rw e at (c .before .before .before .before .loop .inv .1))
+    let args = c .before .before .before .before .before .before .args in
+    let loop = c .before .before .before .before .loop in
+    let e : loop .k ≡ args .p .symbols = omega arith in
+    rw (c .nothing .ensures, rw e at (loop .inv .1))
 
 pub compare-spec : {M : Type 1} → statement M
 compare-spec =

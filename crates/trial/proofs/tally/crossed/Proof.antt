@@ -27,7 +27,11 @@ floor-of-requires : tie.Need-floor-of-requires Inv-loop μ-loop
 floor-of-requires c κs = search needs
 
 returns : tie.Need-returns Inv-loop μ-loop
-returns c = rw (every-no (c .before .before .before .before .before .args .p .sorts) (uncrossed (c .before .before .before .before .before .args .p)) (c .before .before .before .before .loop .k) (c .before .before .before .loop-test .taken) (rw (c .before .floor-of .ensures .0, c .before .before .ceiling-of .ensures .0) at (lt-leb _ _ (c .if1 .taken))))
+returns c =
+    let args = c .before .before .before .before .before .args in
+    let loop = c .before .before .before .before .loop in
+    let loop-test = c .before .before .before .loop-test in
+    rw (every-no (args .p .sorts) (uncrossed (args .p)) (loop .k) (loop-test .taken) (rw (c .before .floor-of .ensures .0, c .before .before .ceiling-of .ensures .0) at (lt-leb _ _ (c .if1 .taken))))
 
 add-k : tie.Need-add-k Inv-loop μ-loop
 add-k c = search needs
@@ -36,7 +40,10 @@ loop-less : tie.Need-loop-less Inv-loop μ-loop
 loop-less c = search needs
 
 loop-again : tie.Need-loop-again Inv-loop μ-loop
-loop-again c = (search needs, every-more (c .before .before .before .before .loop .k) (uncrossed (c .before .before .before .before .before .args .p)) (c .before .before .before .before .loop .inv .1) (rw (c .before .floor-of .ensures .0, c .before .before .ceiling-of .ensures .0) at (le-leb _ _ (c .if1 .left))))
+loop-again c =
+    let args = c .before .before .before .before .before .args in
+    let loop = c .before .before .before .before .loop in
+    (search needs, every-more (loop .k) (uncrossed (args .p)) (loop .inv .1) (rw (c .before .floor-of .ensures .0, c .before .before .ceiling-of .ensures .0) at (le-leb _ _ (c .if1 .left))))
 
 returns-2 : tie.Need-returns-2 Inv-loop μ-loop
 returns-2 c =

@@ -31,7 +31,12 @@ write-all-requires-3 c κs = search needs
 
 returns : tie.Need-returns
 unfolding expected
-returns c = rw (not-true (c .before .before .before .before .before .before .before .before .before .before .before .before .before .args .agrees) (c .before .before .before .before .before .before .before .before .if1 .taken), c .before .before .before .before .before .before .add2 .ensures, c .before .before .before .before .before .before .before .before .before .add .ensures)
+returns c =
+    let args = c .before .before .before .before .before .before .before .before .before .before .before .before .before .args in
+    let add = c .before .before .before .before .before .before .before .before .before .add in
+    let if1 = c .before .before .before .before .before .before .before .before .if1 in
+    let add2 = c .before .before .before .before .before .before .add2 in
+    rw (not-true (args .agrees) (if1 .taken), add2 .ensures, add .ensures)
 
 returns-2 : tie.Need-returns-2
 unfolding expected

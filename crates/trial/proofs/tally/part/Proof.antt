@@ -1,4 +1,4 @@
--- `trial::tally::part` is safe and ends.
+-- `trial::tally::part` meets its contract.
 use native.Mathlib.Omega.{arith}
 use borrow.Author.Needs.{needs}
 use mathlib.Core.Path.{sym}

@@ -24,7 +24,12 @@ add-if-requires-4 c κs = search needs
 
 returns : tie.Need-returns
 unfolding patterned
-returns c = rw (c .add-if4 .ensures, c .before .crossed .ensures, c .before .before .before .add-if3 .ensures, c .before .before .before .before .before .before .add-if2 .ensures, c .before .before .before .before .before .before .before .before .before .add-if .ensures, c .before .before .before .before .before .before .before .before .before .before .before .before .add .ensures)
+returns c =
+    let add = c .before .before .before .before .before .before .before .before .before .before .before .before .add in
+    let add-if = c .before .before .before .before .before .before .before .before .before .add-if in
+    let add-if2 = c .before .before .before .before .before .before .add-if2 in
+    let add-if3 = c .before .before .before .add-if3 in
+    rw (c .add-if4 .ensures, c .before .crossed .ensures, add-if3 .ensures, add-if2 .ensures, add-if .ensures, add .ensures)
 
 pub pattern-spec : {M : Type 1} → statement M
 pattern-spec =
