@@ -3,7 +3,6 @@ use finder::Finding;
 use libc::STDIN_FILENO;
 use libc::STDOUT_FILENO;
 use sheet::Parsed;
-ghost use mathlib.Core.Path.{_≡_};
 ghost use Prim.Native.Nat.{_≤_};
 ghost use lib.ListN.{length};
 ghost use Rattle.tables.specs.Parts.{Limited};
@@ -22,12 +21,10 @@ fn print_fields(n: usize, tables: &[u8], line: &mut [u8])
 
 // Prints the table of a name, which has at most 256 cells.
 fn print_name(name: usize, cells: &[u8], line: &mut [u8])
-    requires { ⌜ 2048 ≤ length (now line) ⌝ }
+    requires { ⌜ (length (now cells) ≤ 256) × (2048 ≤ length (now line)) ⌝ }
 {
-    if cells.len() <= 256 {
-        let k = text::name_line(line, name, cells);
-        io::write_all(STDOUT_FILENO, &line[..k]);
-    }
+    let k = text::name_line(line, name, cells);
+    io::write_all(STDOUT_FILENO, &line[..k]);
 }
 
 // Prints the table of each of n names.

@@ -1,5 +1,8 @@
 // Which pairs of terms some interpretation of the same literals tells apart. Sizes up to the number of terms of each sort settle
 // it: the terms' own groups, one code each, are such an interpretation.
+ghost use mathlib.Core.Path.{_≡_};
+ghost use lib.ListN.{set};
+ghost use Rattle.listing.specs.Apart.{spanOf, spansOf, structuresOf, pairAt, markedBelow, markedAll, told, toldAt, toldApart, isMarked, oneGroup};
 use crate::cells::Shape;
 use crate::cells::begin;
 use crate::cells::capped;
@@ -16,7 +19,9 @@ use crate::ranges::vectors;
 use crate::ranges::with_size;
 
 // The number of terms of each sort, at least 1.
-pub fn spans(p: Plan) -> [u8; 4] {
+pub fn spans(p: Plan) -> [u8; 4]
+    ensures { λ r. ⌜ r ≡ spansOf p ⌝ }
+{
     let n = p.sorts;
     let mut t = [0u8; 4];
     for k in 0..n {
@@ -26,7 +31,9 @@ pub fn spans(p: Plan) -> [u8; 4] {
     t
 }
 
-fn span(p: Plan, sort: usize) -> usize {
+fn span(p: Plan, sort: usize) -> usize
+    ensures { λ r. ⌜ r ≡ spanOf p sort ⌝ }
+{
     let n = p.terms;
     let mut count: usize = 0;
     for t in 0..n {
@@ -38,7 +45,9 @@ fn span(p: Plan, sort: usize) -> usize {
 }
 
 // How many interpretations have sizes up to the spans, up to the budget.
-pub fn structures(p: Plan) -> usize {
+pub fn structures(p: Plan) -> usize
+    ensures { λ r. ⌜ r ≡ structuresOf p ⌝ }
+{
     let t = spans(p);
     let n = vectors(p, t);
     let mut size = [1u8; 4];
@@ -53,7 +62,9 @@ pub fn structures(p: Plan) -> usize {
 }
 
 // Lists them all; pair 16 a + b with b below a is 1 where one of them tells the terms apart.
-pub fn tell_apart(p: Plan, pairs: &mut [u8; 256]) {
+pub fn tell_apart(p: Plan, pairs: &mut [u8; 256])
+    ensures { λ _. ⌜ now (pairs .exit) ≡ toldApart p (now (pairs .entry)) ⌝ }
+{
     let t = spans(p);
     let n = vectors(p, t);
     let mut size = [1u8; 4];
@@ -64,7 +75,9 @@ pub fn tell_apart(p: Plan, pairs: &mut [u8; 256]) {
     }
 }
 
-fn tell_at(p: Plan, s: Shape, pairs: &mut [u8; 256]) {
+fn tell_at(p: Plan, s: Shape, pairs: &mut [u8; 256])
+    ensures { λ _. ⌜ now (pairs .exit) ≡ toldAt p s (now (pairs .entry)) ⌝ }
+{
     let n = s.count;
     let mut tables = [0u8; 512];
     let mut limit = [0u8; 512];
@@ -75,20 +88,26 @@ fn tell_at(p: Plan, s: Shape, pairs: &mut [u8; 256]) {
     }
 }
 
-fn tell(p: Plan, codes: [u8; 16], pairs: &mut [u8; 256]) {
+fn tell(p: Plan, codes: [u8; 16], pairs: &mut [u8; 256])
+    ensures { λ _. ⌜ now (pairs .exit) ≡ told p codes (now (pairs .entry)) ⌝ }
+{
     if sames_hold(p, codes) {
         mark(p, codes, pairs);
     }
 }
 
-fn mark(p: Plan, codes: [u8; 16], pairs: &mut [u8; 256]) {
+fn mark(p: Plan, codes: [u8; 16], pairs: &mut [u8; 256])
+    ensures { λ _. ⌜ now (pairs .exit) ≡ markedAll p codes (now (pairs .entry)) ⌝ }
+{
     let n = p.terms;
     for a in 0..n {
         mark_below(codes, a, pairs);
     }
 }
 
-fn mark_below(codes: [u8; 16], a: usize, pairs: &mut [u8; 256]) {
+fn mark_below(codes: [u8; 16], a: usize, pairs: &mut [u8; 256])
+    ensures { λ _. ⌜ now (pairs .exit) ≡ markedBelow codes a (now (pairs .entry)) ⌝ }
+{
     for b in 0..a {
         if code_of(codes, a) != code_of(codes, b) {
             mark_pair(pairs, a, b);
@@ -96,13 +115,17 @@ fn mark_below(codes: [u8; 16], a: usize, pairs: &mut [u8; 256]) {
     }
 }
 
-fn mark_pair(pairs: &mut [u8; 256], a: usize, b: usize) {
+fn mark_pair(pairs: &mut [u8; 256], a: usize, b: usize)
+    ensures { λ _. ⌜ now (pairs .exit) ≡ set (now (pairs .entry)) (pairAt a b) 1 ⌝ }
+{
     let k = a % 16 * 16 + b % 16;
     pairs[k] = 1;
 }
 
 // Whether no interpretation tells two terms apart.
-pub fn together(pairs: &[u8; 256], a: usize, b: usize) -> bool {
+pub fn together(pairs: &[u8; 256], a: usize, b: usize) -> bool
+    ensures { λ r. ⌜ r ≡ oneGroup (now (pairs .entry)) a b ⌝ }
+{
     if a == b {
         return true;
     }
@@ -112,7 +135,9 @@ pub fn together(pairs: &[u8; 256], a: usize, b: usize) -> bool {
     !marked(pairs, a, b)
 }
 
-fn marked(pairs: &[u8; 256], a: usize, b: usize) -> bool {
+fn marked(pairs: &[u8; 256], a: usize, b: usize) -> bool
+    ensures { λ r. ⌜ r ≡ isMarked (now (pairs .entry)) a b ⌝ }
+{
     let k = a % 16 * 16 + b % 16;
     pairs[k] == 1
 }

@@ -1,4 +1,6 @@
 // Draws a sheet: up to three sorts, six symbols of any arity, twelve terms and seven literals, and a total that may bind.
+ghost use mathlib.Core.Path.{_≡_};
+ghost use Rattle.listing.specs.Draw.{floorFrom, ceilingFrom, oneSort, manySorts, allSorts, arityFrom, oneSymbol, allSymbols, around, ofSort, argumentFrom, isThere, oneTerm, allTerms, opposed, afterLast, twoInFive, oneLiteral, allLiterals, floorsSum, totalFrom, totalled, choiceSort, choiceSymbols, choiceTerms, choiceFrom, drawnFrom};
 use crate::dice::pick;
 use crate::dice::plus;
 use crate::plan::Plan;
@@ -22,7 +24,9 @@ use crate::plan::with_term;
 // Where no term has the sort that is asked for.
 const NONE: usize = 255;
 
-pub fn draw(state: &mut u64) -> Plan {
+pub fn draw(state: &mut u64) -> Plan
+    ensures { λ r. ⌜ (r ≡ drawnFrom (now (state .entry)) .plan) × (now (state .exit) ≡ drawnFrom (now (state .entry)) .state) ⌝ }
+{
     if pick(state, 8) == 0 {
         return choice(state);
     }
@@ -34,7 +38,9 @@ pub fn draw(state: &mut u64) -> Plan {
 }
 
 // A sheet of which two terms differ as soon as one of two sorts has a second code, so that several lists of sizes may have the least sum.
-fn choice(state: &mut u64) -> Plan {
+fn choice(state: &mut u64) -> Plan
+    ensures { λ r. ⌜ (r ≡ choiceFrom (now (state .entry)) .plan) × (now (state .exit) ≡ choiceFrom (now (state .entry)) .state) ⌝ }
+{
     let result = pick(state, 3);
     let a = choice_sort(empty(), result, state);
     let b = choice_sort(a, result, state);
@@ -45,7 +51,9 @@ fn choice(state: &mut u64) -> Plan {
 }
 
 // The result's sort has two codes, the others may have one.
-fn choice_sort(p: Plan, result: usize, state: &mut u64) -> Plan {
+fn choice_sort(p: Plan, result: usize, state: &mut u64) -> Plan
+    ensures { λ r. ⌜ (r ≡ choiceSort result (record { plan = p; state = now (state .entry) }) .plan) × (now (state .exit) ≡ choiceSort result (record { plan = p; state = now (state .entry) }) .state) ⌝ }
+{
     let more = pick(state, 2);
     if p.sorts == result {
         return with_sort(p, 2, 2);
@@ -54,7 +62,9 @@ fn choice_sort(p: Plan, result: usize, state: &mut u64) -> Plan {
 }
 
 // Two constants of each of two sorts, and a symbol that takes both sorts.
-fn choice_symbols(p: Plan, result: usize, param0: usize, param1: usize) -> Plan {
+fn choice_symbols(p: Plan, result: usize, param0: usize, param1: usize) -> Plan
+    ensures { λ r. ⌜ r ≡ choiceSymbols result param0 param1 p ⌝ }
+{
     let x = with_symbol(p, param0, 0, 0, 0);
     let y = with_symbol(x, param0, 0, 0, 0);
     let z = with_symbol(y, param1, 0, 0, 0);
@@ -62,7 +72,9 @@ fn choice_symbols(p: Plan, result: usize, param0: usize, param1: usize) -> Plan 
     with_symbol(w, result, 2, param0, param1)
 }
 
-fn choice_terms(p: Plan) -> Plan {
+fn choice_terms(p: Plan) -> Plan
+    ensures { λ r. ⌜ r ≡ choiceTerms p ⌝ }
+{
     let x = with_term(p, 0, 0, 0);
     let y = with_term(x, 1, 0, 0);
     let z = with_term(y, 2, 0, 0);
@@ -72,7 +84,9 @@ fn choice_terms(p: Plan) -> Plan {
     with_literal(right, 0, 4, 5)
 }
 
-fn sorts(p: Plan, state: &mut u64) -> Plan {
+fn sorts(p: Plan, state: &mut u64) -> Plan
+    ensures { λ r. ⌜ (r ≡ allSorts (record { plan = p; state = now (state .entry) }) .plan) × (now (state .exit) ≡ allSorts (record { plan = p; state = now (state .entry) }) .state) ⌝ }
+{
     let n = how_many(pick(state, 6));
     let mut q = p;
     for _ in 0..n {
@@ -81,7 +95,9 @@ fn sorts(p: Plan, state: &mut u64) -> Plan {
     q
 }
 
-fn how_many(way: usize) -> usize {
+fn how_many(way: usize) -> usize
+    ensures { λ r. ⌜ r ≡ manySorts way ⌝ }
+{
     if way < 3 {
         return 1;
     }
@@ -92,20 +108,26 @@ fn how_many(way: usize) -> usize {
 }
 
 // A floor of 1 to 3; the ceiling is most often one or two above it, and may be 16, or anything from 1 to 4.
-fn sort(p: Plan, state: &mut u64) -> Plan {
+fn sort(p: Plan, state: &mut u64) -> Plan
+    ensures { λ r. ⌜ (r ≡ oneSort (record { plan = p; state = now (state .entry) }) .plan) × (now (state .exit) ≡ oneSort (record { plan = p; state = now (state .entry) }) .state) ⌝ }
+{
     let floor = least(state);
     let ceiling = most(floor, state);
     with_sort(p, floor, ceiling)
 }
 
-fn least(state: &mut u64) -> usize {
+fn least(state: &mut u64) -> usize
+    ensures { λ r. ⌜ (r ≡ floorFrom (now (state .entry)) .value) × (now (state .exit) ≡ floorFrom (now (state .entry)) .state) ⌝ }
+{
     if pick(state, 6) < 4 {
         return 1;
     }
     plus(1, pick(state, 3))
 }
 
-fn most(floor: usize, state: &mut u64) -> usize {
+fn most(floor: usize, state: &mut u64) -> usize
+    ensures { λ r. ⌜ (r ≡ ceilingFrom floor (now (state .entry)) .value) × (now (state .exit) ≡ ceilingFrom floor (now (state .entry)) .state) ⌝ }
+{
     let way = pick(state, 16);
     if way == 0 {
         return plus(1, pick(state, 4));
@@ -119,7 +141,9 @@ fn most(floor: usize, state: &mut u64) -> usize {
     plus(plus(floor, 1), pick(state, 2))
 }
 
-fn symbols(p: Plan, state: &mut u64) -> Plan {
+fn symbols(p: Plan, state: &mut u64) -> Plan
+    ensures { λ r. ⌜ (r ≡ allSymbols (record { plan = p; state = now (state .entry) }) .plan) × (now (state .exit) ≡ allSymbols (record { plan = p; state = now (state .entry) }) .state) ⌝ }
+{
     if pick(state, 16) == 0 {
         return p;
     }
@@ -131,7 +155,9 @@ fn symbols(p: Plan, state: &mut u64) -> Plan {
     q
 }
 
-fn symbol(p: Plan, state: &mut u64) -> Plan {
+fn symbol(p: Plan, state: &mut u64) -> Plan
+    ensures { λ r. ⌜ (r ≡ oneSymbol (record { plan = p; state = now (state .entry) }) .plan) × (now (state .exit) ≡ oneSymbol (record { plan = p; state = now (state .entry) }) .state) ⌝ }
+{
     let result = pick(state, p.sorts);
     let arity = arity(pick(state, 8), p.symbols);
     let param0 = pick(state, p.sorts);
@@ -140,7 +166,9 @@ fn symbol(p: Plan, state: &mut u64) -> Plan {
 }
 
 // The first two symbols take no argument as a rule; of the others two in eight take none, four one and two two.
-fn arity(way: usize, symbols: usize) -> usize {
+fn arity(way: usize, symbols: usize) -> usize
+    ensures { λ r. ⌜ r ≡ arityFrom way symbols ⌝ }
+{
     if way < 2 {
         return 0;
     }
@@ -153,7 +181,9 @@ fn arity(way: usize, symbols: usize) -> usize {
     2
 }
 
-fn terms(p: Plan, state: &mut u64) -> Plan {
+fn terms(p: Plan, state: &mut u64) -> Plan
+    ensures { λ r. ⌜ (r ≡ allTerms (record { plan = p; state = now (state .entry) }) .plan) × (now (state .exit) ≡ allTerms (record { plan = p; state = now (state .entry) }) .state) ⌝ }
+{
     let n = pick(state, 32);
     let mut q = p;
     for _ in 0..n {
@@ -163,7 +193,9 @@ fn terms(p: Plan, state: &mut u64) -> Plan {
 }
 
 // A term more, unless there are enough, an argument of its sort is missing or the same term is there.
-fn term(p: Plan, state: &mut u64) -> Plan {
+fn term(p: Plan, state: &mut u64) -> Plan
+    ensures { λ r. ⌜ (r ≡ oneTerm (record { plan = p; state = now (state .entry) }) .plan) × (now (state .exit) ≡ oneTerm (record { plan = p; state = now (state .entry) }) .state) ⌝ }
+{
     let y = pick(state, p.symbols);
     let from0 = pick(state, p.terms);
     let from1 = pick(state, p.terms);
@@ -182,12 +214,16 @@ fn term(p: Plan, state: &mut u64) -> Plan {
 }
 
 // A term for one argument, 0 where the symbol takes none there.
-fn argument(p: Plan, taken: bool, sort: usize, from: usize) -> usize {
+fn argument(p: Plan, taken: bool, sort: usize, from: usize) -> usize
+    ensures { λ r. ⌜ r ≡ argumentFrom p taken sort from ⌝ }
+{
     if taken { of_sort(p, sort, from) } else { 0 }
 }
 
 // The first term of the sort, from one term on and round again.
-fn of_sort(p: Plan, sort: usize, from: usize) -> usize {
+fn of_sort(p: Plan, sort: usize, from: usize) -> usize
+    ensures { λ r. ⌜ r ≡ ofSort p sort from ⌝ }
+{
     let n = p.terms;
     for k in 0..n {
         let t = wrapped(plus(from, k), n);
@@ -198,12 +234,16 @@ fn of_sort(p: Plan, sort: usize, from: usize) -> usize {
     NONE
 }
 
-fn wrapped(i: usize, n: usize) -> usize {
+fn wrapped(i: usize, n: usize) -> usize
+    ensures { λ r. ⌜ r ≡ around i n ⌝ }
+{
     if i < n { i } else { i - n }
 }
 
 // Whether the term is there.
-fn there(p: Plan, symbol: usize, a: usize, b: usize) -> bool {
+fn there(p: Plan, symbol: usize, a: usize, b: usize) -> bool
+    ensures { λ r. ⌜ r ≡ isThere p symbol a b ⌝ }
+{
     let n = p.terms;
     for t in 0..n {
         if symbol_of(p, t) == symbol && arg0_of(p, t) == a && arg1_of(p, t) == b {
@@ -213,7 +253,9 @@ fn there(p: Plan, symbol: usize, a: usize, b: usize) -> bool {
     false
 }
 
-fn literals(p: Plan, state: &mut u64) -> Plan {
+fn literals(p: Plan, state: &mut u64) -> Plan
+    ensures { λ r. ⌜ (r ≡ allLiterals (record { plan = p; state = now (state .entry) }) .plan) × (now (state .exit) ≡ allLiterals (record { plan = p; state = now (state .entry) }) .state) ⌝ }
+{
     let n = pick(state, 8);
     let mut q = p;
     for _ in 0..n {
@@ -223,7 +265,9 @@ fn literals(p: Plan, state: &mut u64) -> Plan {
 }
 
 // A literal more: one in eight repeats the last one, one in eight contradicts it, and few set a term against itself.
-fn literal(p: Plan, state: &mut u64) -> Plan {
+fn literal(p: Plan, state: &mut u64) -> Plan
+    ensures { λ r. ⌜ (r ≡ oneLiteral (record { plan = p; state = now (state .entry) }) .plan) × (now (state .exit) ≡ oneLiteral (record { plan = p; state = now (state .entry) }) .state) ⌝ }
+{
     let way = pick(state, 8);
     let equal = two_in_five(pick(state, 5));
     let left = pick(state, p.terms);
@@ -241,12 +285,16 @@ fn literal(p: Plan, state: &mut u64) -> Plan {
     with_literal(p, equal, left, right)
 }
 
-fn two_in_five(way: usize) -> usize {
+fn two_in_five(way: usize) -> usize
+    ensures { λ r. ⌜ r ≡ twoInFive way ⌝ }
+{
     if way < 2 { 1 } else { 0 }
 }
 
 // The literal once more (way 0), or its opposite (way 1).
-fn after_last(p: Plan, last: usize, way: usize) -> Plan {
+fn after_last(p: Plan, last: usize, way: usize) -> Plan
+    ensures { λ r. ⌜ r ≡ afterLast p last way ⌝ }
+{
     let equal = equal_of(p, last);
     if way == 0 {
         return with_literal(p, equal, left_of(p, last), right_of(p, last));
@@ -254,19 +302,25 @@ fn after_last(p: Plan, last: usize, way: usize) -> Plan {
     with_literal(p, opposite(equal), left_of(p, last), right_of(p, last))
 }
 
-fn opposite(equal: usize) -> usize {
+fn opposite(equal: usize) -> usize
+    ensures { λ r. ⌜ r ≡ opposed equal ⌝ }
+{
     if equal == 0 { 1 } else { 0 }
 }
 
 // Most often a total near the sum of the floors.
-fn total(p: Plan, state: &mut u64) -> Plan {
+fn total(p: Plan, state: &mut u64) -> Plan
+    ensures { λ r. ⌜ (r ≡ totalled (record { plan = p; state = now (state .entry) }) .plan) × (now (state .exit) ≡ totalled (record { plan = p; state = now (state .entry) }) .state) ⌝ }
+{
     let sum = greatest(floors(p), state);
     let mut q = p;
     q.total = sum;
     q
 }
 
-fn floors(p: Plan) -> usize {
+fn floors(p: Plan) -> usize
+    ensures { λ r. ⌜ r ≡ floorsSum p ⌝ }
+{
     let n = p.sorts;
     let mut sum: usize = 0;
     for k in 0..n {
@@ -275,7 +329,9 @@ fn floors(p: Plan) -> usize {
     sum
 }
 
-fn greatest(floors: usize, state: &mut u64) -> usize {
+fn greatest(floors: usize, state: &mut u64) -> usize
+    ensures { λ r. ⌜ (r ≡ totalFrom floors (now (state .entry)) .value) × (now (state .exit) ≡ totalFrom floors (now (state .entry)) .state) ⌝ }
+{
     let way = pick(state, 8);
     if way == 0 {
         return plus(1, pick(state, 6));

@@ -1,5 +1,7 @@
 // Writes a drawn sheet as bytes, record after record, in the layout of document 01.
+ghost use mathlib.Core.Path.{_≡_};
 ghost use Prim.Native.Nat.{_≤_};
+ghost use Rattle.listing.specs.Encode.{putByte, putRecord, putSorts, putSymbols, putTerms, putLiterals, kindOf, putSheet};
 use crate::dice::byte;
 use crate::plan::Plan;
 use crate::plan::arg0_of;
@@ -17,7 +19,7 @@ use crate::plan::symbol_of;
 
 // Writes the sheet from the start of the bytes and gives its length.
 pub fn encode(p: Plan, bytes: &mut [u8; 512]) -> usize
-    ensures { λ r. ⌜ r ≤ 512 ⌝ }
+    ensures { λ r. ⌜ (r ≡ putSheet p (now (bytes .entry)) .at) × (now (bytes .exit) ≡ putSheet p (now (bytes .entry)) .bytes) × (r ≤ 512) ⌝ }
 {
     let a = sorts(p, bytes, 0);
     let b = symbols(p, bytes, a);
@@ -26,7 +28,9 @@ pub fn encode(p: Plan, bytes: &mut [u8; 512]) -> usize
     record(bytes, d, 6, 1, p.total, 0, 0)
 }
 
-fn sorts(p: Plan, bytes: &mut [u8; 512], from: usize) -> usize {
+fn sorts(p: Plan, bytes: &mut [u8; 512], from: usize) -> usize
+    ensures { λ r. ⌜ (r ≡ putSorts p (record { bytes = now (bytes .entry); at = from }) .at) × (now (bytes .exit) ≡ putSorts p (record { bytes = now (bytes .entry); at = from }) .bytes) ⌝ }
+{
     let n = p.sorts;
     let mut at = from;
     for k in 0..n {
@@ -35,7 +39,9 @@ fn sorts(p: Plan, bytes: &mut [u8; 512], from: usize) -> usize {
     at
 }
 
-fn symbols(p: Plan, bytes: &mut [u8; 512], from: usize) -> usize {
+fn symbols(p: Plan, bytes: &mut [u8; 512], from: usize) -> usize
+    ensures { λ r. ⌜ (r ≡ putSymbols p (record { bytes = now (bytes .entry); at = from }) .at) × (now (bytes .exit) ≡ putSymbols p (record { bytes = now (bytes .entry); at = from }) .bytes) ⌝ }
+{
     let n = p.symbols;
     let mut at = from;
     for k in 0..n {
@@ -52,7 +58,9 @@ fn symbols(p: Plan, bytes: &mut [u8; 512], from: usize) -> usize {
     at
 }
 
-fn terms(p: Plan, bytes: &mut [u8; 512], from: usize) -> usize {
+fn terms(p: Plan, bytes: &mut [u8; 512], from: usize) -> usize
+    ensures { λ r. ⌜ (r ≡ putTerms p (record { bytes = now (bytes .entry); at = from }) .at) × (now (bytes .exit) ≡ putTerms p (record { bytes = now (bytes .entry); at = from }) .bytes) ⌝ }
+{
     let n = p.terms;
     let mut at = from;
     for k in 0..n {
@@ -70,7 +78,9 @@ fn terms(p: Plan, bytes: &mut [u8; 512], from: usize) -> usize {
     at
 }
 
-fn literals(p: Plan, bytes: &mut [u8; 512], from: usize) -> usize {
+fn literals(p: Plan, bytes: &mut [u8; 512], from: usize) -> usize
+    ensures { λ r. ⌜ (r ≡ putLiterals p (record { bytes = now (bytes .entry); at = from }) .at) × (now (bytes .exit) ≡ putLiterals p (record { bytes = now (bytes .entry); at = from }) .bytes) ⌝ }
+{
     let n = p.literals;
     let mut at = from;
     for k in 0..n {
@@ -87,7 +97,9 @@ fn literals(p: Plan, bytes: &mut [u8; 512], from: usize) -> usize {
     at
 }
 
-fn kind(equal: usize) -> usize {
+fn kind(equal: usize) -> usize
+    ensures { λ r. ⌜ r ≡ kindOf equal ⌝ }
+{
     if equal == 1 { 4 } else { 5 }
 }
 
@@ -101,7 +113,7 @@ fn record(
     y: usize,
     z: usize,
 ) -> usize
-    ensures { λ r. ⌜ r ≤ 512 ⌝ }
+    ensures { λ r. ⌜ (r ≡ putRecord kind length x y z (record { bytes = now (bytes .entry); at = at }) .at) × (now (bytes .exit) ≡ putRecord kind length x y z (record { bytes = now (bytes .entry); at = at }) .bytes) × (r ≤ 512) ⌝ }
 {
     let a = put(bytes, at, length);
     let b = put(bytes, a, 0);
@@ -119,7 +131,7 @@ fn record(
 }
 
 fn put(bytes: &mut [u8; 512], at: usize, x: usize) -> usize
-    ensures { λ r. ⌜ r ≤ 512 ⌝ }
+    ensures { λ r. ⌜ (r ≡ putByte x (record { bytes = now (bytes .entry); at = at }) .at) × (now (bytes .exit) ≡ putByte x (record { bytes = now (bytes .entry); at = at }) .bytes) × (r ≤ 512) ⌝ }
 {
     let k = at % 512;
     bytes[k] = byte(x);

@@ -1,5 +1,8 @@
 // A sheet as the trial draws it: plain arrays of what its records say. The listing works from these, never from the sheet's bytes.
+ghost use mathlib.Core.Path.{_≡_};
 ghost use Prim.Native.Nat.{_<_};
+ghost use Rattle.listing.specs.Loops.{entry};
+ghost use Rattle.listing.specs.Plans.{blank, withSort, withSymbol, withTerm, withLiteral, sortOf};
 use crate::dice::byte;
 use crate::dice::wide;
 
@@ -29,7 +32,9 @@ pub struct Plan {
 }
 
 // A plan with nothing in it.
-pub fn empty() -> Plan {
+pub fn empty() -> Plan
+    ensures { λ r. ⌜ r ≡ blank ⌝ }
+{
     Plan {
         sorts: 0,
         floor: [0u8; 4],
@@ -52,7 +57,9 @@ pub fn empty() -> Plan {
 }
 
 // The plan with one sort more.
-pub fn with_sort(p: Plan, floor: usize, ceiling: usize) -> Plan {
+pub fn with_sort(p: Plan, floor: usize, ceiling: usize) -> Plan
+    ensures { λ r. ⌜ r ≡ withSort p floor ceiling ⌝ }
+{
     let mut q = p;
     let k = p.sorts % 4;
     q.floor[k] = byte(floor);
@@ -62,7 +69,9 @@ pub fn with_sort(p: Plan, floor: usize, ceiling: usize) -> Plan {
 }
 
 // The plan with one symbol more.
-pub fn with_symbol(p: Plan, result: usize, arity: usize, param0: usize, param1: usize) -> Plan {
+pub fn with_symbol(p: Plan, result: usize, arity: usize, param0: usize, param1: usize) -> Plan
+    ensures { λ r. ⌜ r ≡ withSymbol p result arity param0 param1 ⌝ }
+{
     let mut q = p;
     let k = p.symbols % 8;
     q.result[k] = byte(result);
@@ -74,7 +83,9 @@ pub fn with_symbol(p: Plan, result: usize, arity: usize, param0: usize, param1: 
 }
 
 // The plan with one term more.
-pub fn with_term(p: Plan, symbol: usize, arg0: usize, arg1: usize) -> Plan {
+pub fn with_term(p: Plan, symbol: usize, arg0: usize, arg1: usize) -> Plan
+    ensures { λ r. ⌜ r ≡ withTerm p symbol arg0 arg1 ⌝ }
+{
     let mut q = p;
     let k = p.terms % 16;
     q.symbol[k] = byte(symbol);
@@ -85,7 +96,9 @@ pub fn with_term(p: Plan, symbol: usize, arg0: usize, arg1: usize) -> Plan {
 }
 
 // The plan with one literal more.
-pub fn with_literal(p: Plan, equal: usize, left: usize, right: usize) -> Plan {
+pub fn with_literal(p: Plan, equal: usize, left: usize, right: usize) -> Plan
+    ensures { λ r. ⌜ r ≡ withLiteral p equal left right ⌝ }
+{
     let mut q = p;
     let k = p.literals % 16;
     q.equal[k] = byte(equal);
@@ -96,84 +109,84 @@ pub fn with_literal(p: Plan, equal: usize, left: usize, right: usize) -> Plan {
 }
 
 pub fn floor_of(p: Plan, sort: usize) -> usize
-    ensures { λ r. ⌜ r < 256 ⌝ }
+    ensures { λ r. ⌜ (r ≡ entry 4 (p .floor) sort) × (r < 256) ⌝ }
 {
     let k = sort % 4;
     wide(p.floor[k])
 }
 
 pub fn ceiling_of(p: Plan, sort: usize) -> usize
-    ensures { λ r. ⌜ r < 256 ⌝ }
+    ensures { λ r. ⌜ (r ≡ entry 4 (p .ceiling) sort) × (r < 256) ⌝ }
 {
     let k = sort % 4;
     wide(p.ceiling[k])
 }
 
 pub fn result_of(p: Plan, symbol: usize) -> usize
-    ensures { λ r. ⌜ r < 256 ⌝ }
+    ensures { λ r. ⌜ (r ≡ entry 8 (p .result) symbol) × (r < 256) ⌝ }
 {
     let k = symbol % 8;
     wide(p.result[k])
 }
 
 pub fn arity_of(p: Plan, symbol: usize) -> usize
-    ensures { λ r. ⌜ r < 256 ⌝ }
+    ensures { λ r. ⌜ (r ≡ entry 8 (p .arity) symbol) × (r < 256) ⌝ }
 {
     let k = symbol % 8;
     wide(p.arity[k])
 }
 
 pub fn param0_of(p: Plan, symbol: usize) -> usize
-    ensures { λ r. ⌜ r < 256 ⌝ }
+    ensures { λ r. ⌜ (r ≡ entry 8 (p .param0) symbol) × (r < 256) ⌝ }
 {
     let k = symbol % 8;
     wide(p.param0[k])
 }
 
 pub fn param1_of(p: Plan, symbol: usize) -> usize
-    ensures { λ r. ⌜ r < 256 ⌝ }
+    ensures { λ r. ⌜ (r ≡ entry 8 (p .param1) symbol) × (r < 256) ⌝ }
 {
     let k = symbol % 8;
     wide(p.param1[k])
 }
 
 pub fn symbol_of(p: Plan, term: usize) -> usize
-    ensures { λ r. ⌜ r < 256 ⌝ }
+    ensures { λ r. ⌜ (r ≡ entry 16 (p .symbol) term) × (r < 256) ⌝ }
 {
     let k = term % 16;
     wide(p.symbol[k])
 }
 
 pub fn arg0_of(p: Plan, term: usize) -> usize
-    ensures { λ r. ⌜ r < 256 ⌝ }
+    ensures { λ r. ⌜ (r ≡ entry 16 (p .arg0) term) × (r < 256) ⌝ }
 {
     let k = term % 16;
     wide(p.arg0[k])
 }
 
 pub fn arg1_of(p: Plan, term: usize) -> usize
-    ensures { λ r. ⌜ r < 256 ⌝ }
+    ensures { λ r. ⌜ (r ≡ entry 16 (p .arg1) term) × (r < 256) ⌝ }
 {
     let k = term % 16;
     wide(p.arg1[k])
 }
 
 pub fn equal_of(p: Plan, literal: usize) -> usize
-    ensures { λ r. ⌜ r < 256 ⌝ }
+    ensures { λ r. ⌜ (r ≡ entry 16 (p .equal) literal) × (r < 256) ⌝ }
 {
     let k = literal % 16;
     wide(p.equal[k])
 }
 
 pub fn left_of(p: Plan, literal: usize) -> usize
-    ensures { λ r. ⌜ r < 256 ⌝ }
+    ensures { λ r. ⌜ (r ≡ entry 16 (p .left) literal) × (r < 256) ⌝ }
 {
     let k = literal % 16;
     wide(p.left[k])
 }
 
 pub fn right_of(p: Plan, literal: usize) -> usize
-    ensures { λ r. ⌜ r < 256 ⌝ }
+    ensures { λ r. ⌜ (r ≡ entry 16 (p .right) literal) × (r < 256) ⌝ }
 {
     let k = literal % 16;
     wide(p.right[k])
@@ -181,7 +194,7 @@ pub fn right_of(p: Plan, literal: usize) -> usize
 
 // The sort of a term: that of its symbol's result.
 pub fn sort_of(p: Plan, term: usize) -> usize
-    ensures { λ r. ⌜ r < 256 ⌝ }
+    ensures { λ r. ⌜ (r ≡ sortOf p term) × (r < 256) ⌝ }
 {
     result_of(p, symbol_of(p, term))
 }

@@ -1,5 +1,7 @@
 // Find against the first candidate of the listing, byte for byte, with buffers that are roomy, exact and too short.
+ghost use mathlib.Core.Path.{_≡_};
 ghost use Prim.Native.Nat.{_≤_};
+ghost use Rattle.trial.specs.Counts.{besides, wantedNumber, outcomeOf, shortCounted, findsCounted};
 use crate::tally::FOUND;
 use crate::tally::LISTED;
 use crate::tally::NO_ANSWER;
@@ -30,7 +32,9 @@ struct Lent {
     tables: usize,
 }
 
-pub fn compare(p: Plan, sheet: &[u8], counts: &mut [u64; 32]) {
+pub fn compare(p: Plan, sheet: &[u8], counts: &mut [u64; 32])
+    ensures { λ _. ⌜ besides (now (counts .exit)) ≡ findsCounted p (besides (now (counts .entry))) ⌝ }
+{
     let mut best = [0u8; 512];
     let key = list(p, &mut best);
     let w = wanted(p, key);
@@ -51,11 +55,15 @@ pub fn compare(p: Plan, sheet: &[u8], counts: &mut [u64; 32]) {
     too_short(p, sheet, key, &best, exact, counts);
 }
 
-fn outcome(number: u8) -> usize {
+fn outcome(number: u8) -> usize
+    ensures { λ r. ⌜ r ≡ outcomeOf number ⌝ }
+{
     if number == 0 { FOUND } else { NO_ANSWER }
 }
 
-fn wanted(p: Plan, key: [u8; 32]) -> Want {
+fn wanted(p: Plan, key: [u8; 32]) -> Want
+    ensures { λ r. ⌜ r .number ≡ wantedNumber key ⌝ }
+{
     let sum = key_byte(key, 0);
     if sum == wide(NOTHING) {
         return refused(11);
@@ -69,7 +77,9 @@ fn wanted(p: Plan, key: [u8; 32]) -> Want {
     }
 }
 
-fn refused(number: u8) -> Want {
+fn refused(number: u8) -> Want
+    ensures { λ r. ⌜ r .number ≡ number ⌝ }
+{
     Want {
         number,
         sum: 0,
@@ -94,7 +104,9 @@ fn too_short(
     best: &[u8; 512],
     exact: Lent,
     counts: &mut [u64; 32],
-) {
+)
+    ensures { λ _. ⌜ besides (now (counts .exit)) ≡ shortCounted (exact .codes) (exact .tables) (besides (now (counts .entry))) ⌝ }
+{
     if 0 < exact.codes {
         let lent = Lent {
             codes: exact.codes - 1,

@@ -1,4 +1,6 @@
 // Forced on every pair of terms, against the interpretations that tell them apart.
+ghost use mathlib.Core.Path.{_≡_};
+ghost use Rattle.trial.specs.Counts.{added, besides, pairOutcome, eachCounted, forcesCounted};
 use crate::tally::FORCED;
 use crate::tally::FREE;
 use crate::tally::NO_PAIR;
@@ -13,7 +15,9 @@ use listing::dice::plus;
 use listing::plan::Plan;
 use listing::plan::sort_of;
 
-pub fn compare(p: Plan, sheet: &[u8], counts: &mut [u64; 32]) {
+pub fn compare(p: Plan, sheet: &[u8], counts: &mut [u64; 32])
+    ensures { λ _. ⌜ besides (now (counts .exit)) ≡ forcesCounted p (besides (now (counts .entry))) ⌝ }
+{
     let mut pairs = [0u8; 256];
     tell_apart(p, &mut pairs);
     add(counts, SETTLED, 1);
@@ -25,14 +29,18 @@ pub fn compare(p: Plan, sheet: &[u8], counts: &mut [u64; 32]) {
 }
 
 // A term with each term, and with one that is not there.
-fn with_each(p: Plan, a: usize, pairs: &[u8; 256], sheet: &[u8], counts: &mut [u64; 32]) {
+fn with_each(p: Plan, a: usize, pairs: &[u8; 256], sheet: &[u8], counts: &mut [u64; 32])
+    ensures { λ _. ⌜ besides (now (counts .exit)) ≡ eachCounted p (now (pairs .entry)) a (besides (now (counts .entry))) ⌝ }
+{
     let n = plus(p.terms, 1);
     for b in 0..n {
         pair(p, a, b, pairs, sheet, counts);
     }
 }
 
-fn pair(p: Plan, a: usize, b: usize, pairs: &[u8; 256], sheet: &[u8], counts: &mut [u64; 32]) {
+fn pair(p: Plan, a: usize, b: usize, pairs: &[u8; 256], sheet: &[u8], counts: &mut [u64; 32])
+    ensures { λ _. ⌜ besides (now (counts .exit)) ≡ added (pairOutcome p (now (pairs .entry)) a b) 1 (besides (now (counts .entry))) ⌝ }
+{
     let got = asked(sheet, a, b);
     if p.terms <= a || p.terms <= b {
         expect(got == 1013, NO_PAIR, b"forced", sheet, counts);

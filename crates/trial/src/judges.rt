@@ -1,5 +1,7 @@
 // Judge and table of a name on tables of every size around the bounds, against what the literals say of their codes, and on damaged
 // tables.
+ghost use mathlib.Core.Path.{_≡_};
+ghost use Rattle.trial.specs.Counts.{besides, tableCounted, firstCounted, damageCounted, someCounted, sizesCounted, judgesCounted};
 use crate::stretches;
 use crate::tally::BROKEN;
 use crate::tally::DAMAGED;
@@ -25,7 +27,9 @@ use listing::ranges::vectors;
 use tables::Judgement;
 
 // Every list of sizes within bounds, and some out of bounds.
-pub fn compare(p: Plan, sheet: &[u8], counts: &mut [u64; 32]) {
+pub fn compare(p: Plan, sheet: &[u8], counts: &mut [u64; 32])
+    ensures { λ _. ⌜ besides (now (counts .exit)) ≡ judgesCounted p (besides (now (counts .entry))) ⌝ }
+{
     let top = tops(p);
     let n = vectors(p, top);
     let gap = n / 8 + 1;
@@ -43,7 +47,9 @@ pub fn compare(p: Plan, sheet: &[u8], counts: &mut [u64; 32]) {
 }
 
 // Some of the tables within bounds, and one out of bounds at every gap.
-fn at_sizes(p: Plan, s: Shape, v: usize, gap: usize, sheet: &[u8], counts: &mut [u64; 32]) {
+fn at_sizes(p: Plan, s: Shape, v: usize, gap: usize, sheet: &[u8], counts: &mut [u64; 32])
+    ensures { λ _. ⌜ besides (now (counts .exit)) ≡ sizesCounted p s v gap (besides (now (counts .entry))) ⌝ }
+{
     if within(p, s) {
         some_tables(p, s, sheet, counts);
         damaged(p, s, v % 6, sheet, counts);
@@ -56,7 +62,9 @@ fn at_sizes(p: Plan, s: Shape, v: usize, gap: usize, sheet: &[u8], counts: &mut 
 }
 
 // At most four of the tables at these sizes, spread evenly over all.
-fn some_tables(p: Plan, s: Shape, sheet: &[u8], counts: &mut [u64; 32]) {
+fn some_tables(p: Plan, s: Shape, sheet: &[u8], counts: &mut [u64; 32])
+    ensures { λ _. ⌜ besides (now (counts .exit)) ≡ someCounted p s (besides (now (counts .entry))) ⌝ }
+{
     let n = s.count;
     let stride = n / 4 + 1;
     let mut tables = [0u8; 512];
@@ -71,7 +79,9 @@ fn some_tables(p: Plan, s: Shape, sheet: &[u8], counts: &mut [u64; 32]) {
 }
 
 // Tables within bounds fit, or break a first literal.
-fn one_table(p: Plan, s: Shape, tables: &[u8; 512], sheet: &[u8], counts: &mut [u64; 32]) {
+fn one_table(p: Plan, s: Shape, tables: &[u8; 512], sheet: &[u8], counts: &mut [u64; 32])
+    ensures { λ _. ⌜ besides (now (counts .exit)) ≡ tableCounted p s (now (tables .entry)) (besides (now (counts .entry))) ⌝ }
+{
     stretches::compare(p, s, tables, sheet, counts);
     let got = asked(sheet, part(tables, s.length));
     let broken = first_broken(p, evaluate(p, s, tables));
@@ -83,7 +93,9 @@ fn one_table(p: Plan, s: Shape, tables: &[u8; 512], sheet: &[u8], counts: &mut [
 }
 
 // The tables with every cell 0, at sizes out of bounds.
-fn first_tables(p: Plan, s: Shape, sheet: &[u8], counts: &mut [u64; 32]) {
+fn first_tables(p: Plan, s: Shape, sheet: &[u8], counts: &mut [u64; 32])
+    ensures { λ _. ⌜ besides (now (counts .exit)) ≡ firstCounted p (besides (now (counts .entry))) ⌝ }
+{
     let mut tables = [0u8; 512];
     let mut limit = [0u8; 512];
     begin(p, s, &mut tables, &mut limit);
@@ -93,7 +105,9 @@ fn first_tables(p: Plan, s: Shape, sheet: &[u8], counts: &mut [u64; 32]) {
 }
 
 // Tables that are refused: a byte short, a byte too long, a size of 0 or 17, a cell that is no code, or empty.
-fn damaged(p: Plan, s: Shape, way: usize, sheet: &[u8], counts: &mut [u64; 32]) {
+fn damaged(p: Plan, s: Shape, way: usize, sheet: &[u8], counts: &mut [u64; 32])
+    ensures { λ _. ⌜ besides (now (counts .exit)) ≡ damageCounted (besides (now (counts .entry))) ⌝ }
+{
     let mut tables = [0u8; 512];
     let mut limit = [0u8; 512];
     begin(p, s, &mut tables, &mut limit);

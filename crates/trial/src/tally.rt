@@ -1,4 +1,8 @@
 // What was compared, how often, and where the entry points and the listing differ.
+ghost use mathlib.Core.Path.{_≡_};
+ghost use Prim.Native.Nat.{_%_};
+ghost use lib.ListN.{take};
+ghost use Rattle.trial.specs.Counts.{added, expected, anyCrossed, addedIf, patterned, refusalOf};
 use listing::dice::wide;
 use listing::plan::Plan;
 use listing::plan::ceiling_of;
@@ -48,13 +52,17 @@ pub const EMPTY: usize = 20;
 
 pub const DIFFERENCES: usize = 21;
 
-pub fn add(counts: &mut [u64; 32], at: usize, n: usize) {
+pub fn add(counts: &mut [u64; 32], at: usize, n: usize)
+    ensures { λ _. ⌜ now (counts .exit) ≡ added at n (now (counts .entry)) ⌝ }
+{
     let k = at % 32;
     counts[k] = std::num::wrapping_add_u64(counts[k], n as u64);
 }
 
 // Counts the sheet and what is special about it.
-pub fn pattern(p: Plan, counts: &mut [u64; 32]) {
+pub fn pattern(p: Plan, counts: &mut [u64; 32])
+    ensures { λ _. ⌜ now (counts .exit) ≡ patterned p (now (counts .entry)) ⌝ }
+{
     add(counts, DRAWN, 1);
     add_if(counts, NO_SYMBOLS, p.symbols == 0);
     add_if(counts, NO_TERMS, p.terms == 0);
@@ -62,14 +70,18 @@ pub fn pattern(p: Plan, counts: &mut [u64; 32]) {
     add_if(counts, CROSSED, crossed(p));
 }
 
-fn add_if(counts: &mut [u64; 32], at: usize, yes: bool) {
+fn add_if(counts: &mut [u64; 32], at: usize, yes: bool)
+    ensures { λ _. ⌜ now (counts .exit) ≡ addedIf at yes (now (counts .entry)) ⌝ }
+{
     if yes {
         add(counts, at, 1);
     }
 }
 
 // Whether a floor lies above its ceiling.
-fn crossed(p: Plan) -> bool {
+fn crossed(p: Plan) -> bool
+    ensures { λ r. ⌜ r ≡ anyCrossed p ⌝ }
+{
     let n = p.sorts;
     for k in 0..n {
         if ceiling_of(p, k) < floor_of(p, k) {
@@ -80,7 +92,9 @@ fn crossed(p: Plan) -> bool {
 }
 
 // Counts an outcome that the listing says, and prints the sheet where the answer to the question is another one.
-pub fn expect(agrees: bool, outcome: usize, question: &[u8], sheet: &[u8], counts: &mut [u64; 32]) {
+pub fn expect(agrees: bool, outcome: usize, question: &[u8], sheet: &[u8], counts: &mut [u64; 32])
+    ensures { λ _. ⌜ now (counts .exit) ≡ expected agrees outcome (now (counts .entry)) ⌝ }
+{
     add(counts, outcome, 1);
     if !agrees {
         add(counts, DIFFERENCES, 1);
@@ -135,7 +149,9 @@ fn line(name: &[u8], counts: &[u64; 32], at: usize) {
 }
 
 // A refusal as a number: 1000 and its number at place 0, and no such number elsewhere.
-pub fn refusal(number: u8, place: usize) -> usize {
+pub fn refusal(number: u8, place: usize) -> usize
+    ensures { λ r. ⌜ r ≡ refusalOf number place ⌝ }
+{
     if place == 0 {
         1000 + wide(number)
     } else {
@@ -144,7 +160,9 @@ pub fn refusal(number: u8, place: usize) -> usize {
 }
 
 // The first n bytes.
-pub fn part(bytes: &[u8; 512], n: usize) -> &[u8] {
+pub fn part(bytes: &[u8; 512], n: usize) -> &[u8]
+    ensures { λ r. ⌜ now r ≡ take (n % 513) (now (bytes .entry)) ⌝ }
+{
     let k = n % 513;
     let whole: &[u8] = bytes;
     &whole[..k]

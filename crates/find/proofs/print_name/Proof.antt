@@ -26,9 +26,6 @@ same-length c = search needs
 returns : tie.Need-returns
 returns c = search needs
 
-returns-2 : tie.Need-returns-2
-returns-2 c = search needs
-
 pub print-name-spec : {M : Type 1} → statement M
 print-name-spec =
     tie.close
@@ -38,5 +35,4 @@ print-name-spec =
     slice-aggregate-write-all
     write-all-requires
     same-length
-    returns
-    returns-2)
+    returns)

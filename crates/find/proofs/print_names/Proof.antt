@@ -3,6 +3,7 @@ use borrow.Author.Needs.{needs}
 use Prim.Native.Nat.{_-_, _≤_}
 use mathlib.Core.Path.{_≡_}
 use lib.ListN.{length}
+use Rattle.find.proofs.Names.{table-short}
 use Rattle.find.proofs.print_names.Statement.{statement}
 use Rattle.find.proofs.print_names.Tie as tie
 
@@ -19,7 +20,7 @@ table-of-requires : tie.Need-table-of-requires Inv-loop μ-loop
 table-of-requires c κs = search needs
 
 print-name-requires : tie.Need-print-name-requires Inv-loop μ-loop
-print-name-requires c κs = search needs
+print-name-requires c κs = (rw (c .before .table-of .ensures .0) (table-short _ _ _), search needs)
 
 add-f : tie.Need-add-f Inv-loop μ-loop
 add-f c = search needs

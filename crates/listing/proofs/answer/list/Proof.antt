@@ -1,11 +1,19 @@
--- `listing::answer::list` is safe and ends.
+-- `listing::answer::list` meets its contract: size has come to list counter of the sizes, and what is found is that of as many turns.
+use mathlib.Core.Path.{_≡_, refl, _∙_, ap}
+use native.Mathlib.Omega.{arith}
+use Rattle.listing.specs.Loops.{turns}
+use Rattle.listing.specs.Ranges.{sizesAt}
+use Rattle.listing.specs.Answer.{topsOf, shapeAt, Found, listedWithin, listed}
+use Rattle.listing.proofs.Loops.{turns-more}
+use Rattle.listing.proofs.Odometers.{sizes-more}
+use Rattle.listing.proofs.Answers.{found-step}
 use Prim.Native.Nat.{_≤_, _-_}
 use borrow.Author.Needs.{needs}
 use Rattle.listing.proofs.answer.list.Statement.{statement}
 use Rattle.listing.proofs.answer.list.Tie as tie
 
 abbrev Inv-loop : tie.InvT-loop
-Inv-loop p best₀ t n size₀ key₀ counter₀ best size key counter = counter ≤ n
+Inv-loop p best₀ t n size₀ key₀ counter₀ best size key counter = (counter ≤ n) × (size ≡ sizesAt (p .sorts) (topsOf p) counter) × (_≡_ {A = Found} (record { key = key; tables = best }) (turns counter (λ v. listedWithin p (shapeAt p v)) (record { key = key₀; tables = best₀ })))
 
 abbrev μ-loop : tie.MeasureT-loop
 μ-loop p best₀ t n size₀ key₀ counter₀ best size key counter = n - counter
@@ -17,7 +25,8 @@ vectors-requires : tie.Need-vectors-requires Inv-loop μ-loop
 vectors-requires c κs = search needs
 
 loop-holds : tie.Need-loop-holds Inv-loop μ-loop
-loop-holds c = search needs
+unfolding sizesAt
+loop-holds c = (search needs, refl, refl)
 
 shaped-requires : tie.Need-shaped-requires Inv-loop μ-loop
 shaped-requires c κs = search needs
@@ -35,10 +44,21 @@ loop-less : tie.Need-loop-less Inv-loop μ-loop
 loop-less c = search needs
 
 loop-again : tie.Need-loop-again Inv-loop μ-loop
-loop-again c = search needs
+loop-again c =
+    let args = c .before .before .before .before .before .before .before .before .args in
+    let tops = c .before .before .before .before .before .before .before .tops in
+    let loop = c .before .before .before .before .before .loop in
+    let shaped = c .before .before .before .shaped in
+    (search needs, rw (sizes-more, c .next-sizes .ensures, tops .ensures, loop .inv .1), found-step (listedWithin (args .p) (shaped .result)) _ _ _ _ (loop .inv .2) (c .before .list-within .ensures .0) (c .before .list-within .ensures .1) ∙ rw (turns-more, shaped .ensures, loop .inv .1))
 
 returns : tie.Need-returns Inv-loop μ-loop
-returns c = search needs
+unfolding listed
+returns c =
+    let tops = c .before .before .before .tops in
+    let vectors = c .before .before .vectors in
+    let e : c .before .loop .counter ≡ vectors .result = omega arith in
+    let f = rw (e ∙ rw (tops .ensures) at (vectors .ensures)) at (c .before .loop .inv .2) in
+    (ap (λ (b : Found). b .key) f, ap (λ (b : Found). b .tables) f)
 
 pub list-spec : {M : Type 1} → statement M
 list-spec =

@@ -1,17 +1,23 @@
--- `listing::answer::tops` is safe and ends.
+-- `listing::answer::tops` meets its contract: the tops so far are those of k turns.
+use mathlib.Core.Path.{_≡_, refl}
+use native.Mathlib.Omega.{arith}
+use lib.ListN.{replicate}
+use Rattle.listing.specs.Loops.{turns, stored}
+use Rattle.listing.specs.Answer.{topOf, topsOf}
+use Rattle.listing.proofs.Loops.{turns-more}
 use Prim.Native.Nat.{_≤_, _-_}
 use borrow.Author.Needs.{needs}
 use Rattle.listing.proofs.answer.tops.Statement.{statement}
 use Rattle.listing.proofs.answer.tops.Tie as tie
 
 abbrev Inv-loop : tie.InvT-loop
-Inv-loop p n t₀ k₀ t k = k ≤ n
+Inv-loop p n t₀ k₀ t k = (k ≤ n) × (t ≡ turns k (λ i x. stored 4 x i (topOf p i)) (replicate 4 0))
 
 abbrev μ-loop : tie.MeasureT-loop
 μ-loop p n t₀ k₀ t k = n - k
 
 loop-holds : tie.Need-loop-holds Inv-loop μ-loop
-loop-holds c = search needs
+loop-holds c = (search needs, refl)
 
 top-requires : tie.Need-top-requires Inv-loop μ-loop
 top-requires c κs = search needs
@@ -26,10 +32,13 @@ loop-less : tie.Need-loop-less Inv-loop μ-loop
 loop-less c = search needs
 
 loop-again : tie.Need-loop-again Inv-loop μ-loop
-loop-again c = search needs
+loop-again c = (search needs, rw (turns-more, c .with-size .ensures, c .before .top .ensures, c .before .before .before .loop .inv .1))
 
 returns : tie.Need-returns Inv-loop μ-loop
-returns c = search needs
+unfolding topsOf
+returns c =
+    let e : c .before .loop .k ≡ c .before .before .args .p .sorts = omega arith in
+    rw e at (c .before .loop .inv .1)
 
 pub tops-spec : {M : Type 1} → statement M
 tops-spec =

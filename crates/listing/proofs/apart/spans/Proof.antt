@@ -1,17 +1,23 @@
--- `listing::apart::spans` is safe and ends.
+-- `listing::apart::spans` meets its contract: the spans so far are those of k turns.
+use mathlib.Core.Path.{_≡_, refl}
+use native.Mathlib.Omega.{arith}
+use lib.ListN.{replicate}
+use Rattle.listing.specs.Loops.{turns, stored}
+use Rattle.listing.specs.Apart.{spanOf, spansOf}
+use Rattle.listing.proofs.Loops.{turns-more}
 use Prim.Native.Nat.{_≤_, _-_}
 use borrow.Author.Needs.{needs}
 use Rattle.listing.proofs.apart.spans.Statement.{statement}
 use Rattle.listing.proofs.apart.spans.Tie as tie
 
 abbrev Inv-loop : tie.InvT-loop
-Inv-loop p n t₀ k₀ t k = k ≤ n
+Inv-loop p n t₀ k₀ t k = (k ≤ n) × (t ≡ turns k (λ i x. stored 4 x i (spanOf p i)) (replicate 4 0))
 
 abbrev μ-loop : tie.MeasureT-loop
 μ-loop p n t₀ k₀ t k = n - k
 
 loop-holds : tie.Need-loop-holds Inv-loop μ-loop
-loop-holds c = search needs
+loop-holds c = (search needs, refl)
 
 span-requires : tie.Need-span-requires Inv-loop μ-loop
 span-requires c κs = search needs
@@ -26,10 +32,13 @@ loop-less : tie.Need-loop-less Inv-loop μ-loop
 loop-less c = search needs
 
 loop-again : tie.Need-loop-again Inv-loop μ-loop
-loop-again c = search needs
+loop-again c = (search needs, rw (turns-more, c .with-size .ensures, c .before .span .ensures, c .before .before .before .loop .inv .1))
 
 returns : tie.Need-returns Inv-loop μ-loop
-returns c = search needs
+unfolding spansOf
+returns c =
+    let e : c .before .loop .k ≡ c .before .before .args .p .sorts = omega arith in
+    rw e at (c .before .loop .inv .1)
 
 pub spans-spec : {M : Type 1} → statement M
 spans-spec =

@@ -1,11 +1,20 @@
--- `listing::apart::structures` is safe and ends.
+-- `listing::apart::structures` meets its contract: size has come to list counter of the sizes, and the count is that of as many turns.
+use mathlib.Core.Path.{_≡_, refl, _∙_}
+use native.Mathlib.Omega.{arith}
+use Rattle.listing.specs.Loops.{turns}
+use Rattle.listing.specs.Dice.{sum}
+use Rattle.listing.specs.Ranges.{sizesAt}
+use Rattle.listing.specs.Cells.{atMost}
+use Rattle.listing.specs.Apart.{spansOf, spanShape, structuresOf}
+use Rattle.listing.proofs.Loops.{turns-more}
+use Rattle.listing.proofs.Odometers.{sizes-more}
 use Prim.Native.Nat.{_≤_, _-_}
 use borrow.Author.Needs.{needs}
 use Rattle.listing.proofs.apart.structures.Statement.{statement}
 use Rattle.listing.proofs.apart.structures.Tie as tie
 
 abbrev Inv-loop : tie.InvT-loop
-Inv-loop p t n size₀ count₀ counter₀ size count counter = counter ≤ n
+Inv-loop p t n size₀ count₀ counter₀ size count counter = (counter ≤ n) × (size ≡ sizesAt (p .sorts) (spansOf p) counter) × (count ≡ turns counter (λ v x. atMost (sum x (spanShape p v .count))) 0)
 
 abbrev μ-loop : tie.MeasureT-loop
 μ-loop p t n size₀ count₀ counter₀ size count counter = n - counter
@@ -17,7 +26,8 @@ vectors-requires : tie.Need-vectors-requires Inv-loop μ-loop
 vectors-requires c κs = search needs
 
 loop-holds : tie.Need-loop-holds Inv-loop μ-loop
-loop-holds c = search needs
+unfolding sizesAt
+loop-holds c = (search needs, refl, refl)
 
 shaped-requires : tie.Need-shaped-requires Inv-loop μ-loop
 shaped-requires c κs = search needs
@@ -38,10 +48,19 @@ loop-less : tie.Need-loop-less Inv-loop μ-loop
 loop-less c = search needs
 
 loop-again : tie.Need-loop-again Inv-loop μ-loop
-loop-again c = search needs
+loop-again c =
+    let spans = c .before .before .before .before .before .before .before .spans in
+    let loop = c .before .before .before .before .before .loop in
+    let shaped = c .before .before .before .shaped in
+    (search needs, rw (sizes-more, c .next-sizes .ensures, spans .ensures, loop .inv .1), rw (turns-more, c .before .capped .ensures, c .before .before .plus .ensures, shaped .ensures, loop .inv .1, loop .inv .2))
 
 returns : tie.Need-returns Inv-loop μ-loop
-returns c = search needs
+unfolding structuresOf
+returns c =
+    let spans = c .before .before .before .spans in
+    let vectors = c .before .before .vectors in
+    let e : c .before .loop .counter ≡ vectors .result = omega arith in
+    rw (e ∙ rw (spans .ensures) at (vectors .ensures)) at (c .before .loop .inv .2)
 
 pub structures-spec : {M : Type 1} → statement M
 structures-spec =

@@ -1,10 +1,8 @@
 -- `trial::finds::ask` is safe and ends.
 use native.Mathlib.Omega.{arith}
 use borrow.Author.Needs.{needs}
-use lib.ListN.{length}
 use mathlib.Core.Path.{sym}
 use lib.Seq.{length-take-le}
-use borrow.Author.Needs.{needs}
 use Rattle.trial.proofs.finds.ask.Statement.{statement}
 use Rattle.trial.proofs.finds.ask.Tie as tie
 

@@ -1,11 +1,21 @@
--- `trial::judges::compare` is safe and ends.
+-- `trial::judges::compare` meets its contract: size has come to list v of the sizes, and the counts are those of as many turns.
+use mathlib.Core.Path.{_≡_, refl}
+use native.Mathlib.Omega.{arith}
+use mathlib.Core.Logic.{inl, inr}
+use borrow.Author.Tests.{lt-ltb, le-ltb}
+use Rattle.listing.specs.Loops.{turns}
+use Rattle.listing.specs.Ranges.{sizesAt}
+use Rattle.listing.specs.Answer.{topsOf}
+use Rattle.trial.specs.Counts.{besides, shapeCounted, judgesCounted}
+use Rattle.listing.proofs.Loops.{turns-more}
+use Rattle.listing.proofs.Odometers.{sizes-more}
 use Prim.Native.Nat.{_≤_, _-_}
 use borrow.Author.Needs.{needs}
 use Rattle.trial.proofs.judges.compare.Statement.{statement}
 use Rattle.trial.proofs.judges.compare.Tie as tie
 
 abbrev Inv-loop : tie.InvT-loop
-Inv-loop p sheet counts₀ top n gap size₀ v₀ counts size v = v ≤ n
+Inv-loop p sheet counts₀ top n gap size₀ v₀ counts size v = (v ≤ n) × (size ≡ sizesAt (p .sorts) (topsOf p) v) × (besides counts ≡ turns v (shapeCounted p gap) (besides counts₀))
 
 abbrev μ-loop : tie.MeasureT-loop
 μ-loop p sheet counts₀ top n gap size₀ v₀ counts size v = n - v
@@ -20,7 +30,8 @@ add-gap : tie.Need-add-gap Inv-loop μ-loop
 add-gap c = search needs
 
 loop-holds : tie.Need-loop-holds Inv-loop μ-loop
-loop-holds c = search needs
+unfolding sizesAt
+loop-holds c = (search needs, refl, refl)
 
 shaped-requires : tie.Need-shaped-requires Inv-loop μ-loop
 shaped-requires c κs = search needs
@@ -38,10 +49,24 @@ loop-less : tie.Need-loop-less Inv-loop μ-loop
 loop-less c = search needs
 
 loop-again : tie.Need-loop-again Inv-loop μ-loop
-loop-again c = search needs
+unfolding shapeCounted
+loop-again c =
+    let tops = c .before .before .before .before .before .before .before .tops in
+    let loop = c .before .before .before .before .before .loop in
+    let shaped = c .before .before .before .shaped in
+    let s = rw (loop .inv .1) at (shaped .ensures) in
+    elim (c .before .if1 .came) [
+      | inl w ↦ (search needs, rw (sizes-more, c .next-sizes .ensures, tops .ensures, loop .inv .1), rw (w .3, turns-more, ← s, lt-ltb _ _ (w .0 .taken), w .2 .ensures, loop .inv .2))
+      | inr w ↦ (search needs, rw (sizes-more, c .next-sizes .ensures, tops .ensures, loop .inv .1), rw (w .1, turns-more, ← s, le-ltb _ _ (w .0 .left)) (loop .inv .2))
+    ]
 
 returns : tie.Need-returns Inv-loop μ-loop
-returns c = search needs
+unfolding judgesCounted
+returns c =
+    let tops = c .before .before .before .tops in
+    let vectors = c .before .before .vectors in
+    let e : c .before .loop .v ≡ vectors .result = omega arith in
+    rw (e, rw (tops .ensures) at (vectors .ensures)) at (c .before .loop .inv .2)
 
 pub compare-spec : {M : Type 1} → statement M
 compare-spec =

@@ -1,10 +1,8 @@
--- `trial::tally::part` is safe and ends.
+-- `trial::tally::part` meets its contract.
 use native.Mathlib.Omega.{arith}
 use borrow.Author.Needs.{needs}
-use lib.ListN.{length}
 use mathlib.Core.Path.{sym}
 use lib.Seq.{length-take-le}
-use borrow.Author.Needs.{needs}
 use Rattle.trial.proofs.tally.part.Statement.{statement}
 use Rattle.trial.proofs.tally.part.Tie as tie
 

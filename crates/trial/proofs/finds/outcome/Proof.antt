@@ -1,0 +1,13 @@
+-- `trial::finds::outcome` meets its contract.
+use borrow.Author.Tests.{eq-eqb, ne-eqb}
+use Rattle.trial.proofs.finds.outcome.Statement.{statement}
+use Rattle.trial.proofs.finds.outcome.Tie as tie
+
+returns : tie.Need-returns
+returns c = rw (eq-eqb _ _ (c .if1 .taken))
+
+returns-2 : tie.Need-returns-2
+returns-2 c = rw (ne-eqb _ _ (c .if1 .left))
+
+pub outcome-spec : {M : Type 1} → statement M
+outcome-spec = tie.close (tie.spec returns returns-2)
