@@ -45,8 +45,8 @@ pub struct Outcome {
     pub labels: [u8; 128],
     pub words: [u16; 128],
     pub marks: [u64; 256],
-    // how many groups each term's group is known to differ from
-    pub degree: [u8; 128],
+    // how much each term's group is tied to others
+    pub degree: [u16; 128],
 }
 
 // The number of terms or literals to go through.
@@ -364,15 +364,39 @@ fn ones(w: u64) -> usize
     u64::count_ones(w) as usize
 }
 
-// How many groups each term's group is marked against.
-fn degrees<'a>(labels: &'a [u8; 128], marks: &'a [u64; 256]) -> [u8; 128] {
+// Counts one more of a group.
+fn count(counts: &mut [u8; 128], g: usize) {
+    if g < MOST {
+        if counts[g] < 255 {
+            counts[g] = counts[g] + 1;
+        }
+    }
+}
+
+// How often each group is an argument of a term.
+fn uses<'a>(labels: &'a [u8; 128], arg0: &'a [u8; 128], arg1: &'a [u8; 128], n: usize) -> [u8; 128]
+    requires { ⌜ n ≤ 128 ⌝ }
+{
+    let mut counts = [0u8; 128];
+    let mut i: usize = 0;
+    while i < n {
+        count(&mut counts, label(labels, wide(arg0[i])));
+        count(&mut counts, label(labels, wide(arg1[i])));
+        i += 1;
+    }
+    counts
+}
+
+// How much each term's group is tied to others: how often it is an argument, and four times how many groups it is marked against.
+fn degrees<'a>(labels: &'a [u8; 128], marks: &'a [u64; 256], used: [u8; 128]) -> [u16; 128] {
     let low = live(labels, 0);
     let high = live(labels, 1);
-    let mut out = [0u8; 128];
+    let mut out = [0u16; 128];
     let mut i: usize = 0;
     while i < MOST {
         let g = label(labels, i) % 128;
-        out[i] = (ones(marks[2 * g] & low) + ones(marks[2 * g + 1] & high)) as u8;
+        let apart = ones(marks[2 * g] & low) + ones(marks[2 * g + 1] & high);
+        out[i] = (4 * apart + wide(used[g])) as u16;
         i += 1;
     }
     out
@@ -433,7 +457,8 @@ pub fn propagate<'a>(
     );
     let g = conflict(&w, &k, n);
     let struck = spread(&l, &w);
-    let degree = degrees(&l, &k);
+    let used = uses(&l, &p.arg0, &p.arg1, n);
+    let degree = degrees(&l, &k, used);
     Outcome {
         dead: g < MOST,
         group: (g % 256) as u8,

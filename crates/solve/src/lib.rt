@@ -152,7 +152,7 @@ pub fn decide(decided: [u8; 256], term: usize, v: usize) -> [u8; 256]
 
 // ---- Which term to branch on: no promise rests on these.
 
-// The weight of one failure, which counts as much as one group that a term differs from.
+// The weight of one failure: half of what one group that a term differs from counts.
 const FAILURE: u16 = 256;
 
 // The weight past which a failure adds nothing.
@@ -190,9 +190,9 @@ fn used_words(p: Parsed, decided: [u8; 256]) -> [u16; 8]
     words
 }
 
-// How good it is to branch on a term: its weight and the groups that it differs from, per code to try; of the codes not in use one alone
-// is tried. 0 where it has at most one code left.
-fn score(word: u16, used: u16, degree: u8, weight: u16) -> u32 {
+// How good it is to branch on a term: its weight and how much it is tied to others, per code to try; of the codes not in use one alone is
+// tried. 0 where it has at most one code left.
+fn score(word: u16, used: u16, degree: u16, weight: u16) -> u32 {
     let left = word ^ 65535;
     if u16::count_ones(left) < 2 {
         return 0;
@@ -201,7 +201,7 @@ fn score(word: u16, used: u16, degree: u8, weight: u16) -> u32 {
     if 16 < old {
         return 1;
     }
-    let rest = (weight as u32) + ((degree as u32) + 1) * (FAILURE as u32);
+    let rest = 2 * (weight as u32) + ((degree as u32) + 2) * (FAILURE as u32);
     if left & (used ^ 65535) == 0 && 0 < old {
         return rest / old;
     }
@@ -214,7 +214,7 @@ fn choose<'a>(
     decided: [u8; 256],
     labels: &'a [u8; 128],
     words: &'a [u16; 128],
-    degree: &'a [u8; 128],
+    degree: &'a [u16; 128],
     weights: [u16; 128],
 ) -> usize
     requires { ⌜ Searchable p ⌝ }
@@ -338,7 +338,7 @@ fn node<'a>(
     group: u8,
     labels: &'a [u8; 128],
     struck: &'a [u16; 128],
-    degree: &'a [u8; 128],
+    degree: &'a [u16; 128],
     weights: [u16; 128],
 ) -> Step
     requires { ⌜ Searchable p ⌝ }

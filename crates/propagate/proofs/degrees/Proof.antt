@@ -5,10 +5,10 @@ use Rattle.propagate.proofs.degrees.Statement.{statement}
 use Rattle.propagate.proofs.degrees.Tie as tie
 
 abbrev Inv-loop : tie.InvT-loop
-Inv-loop labels marks low high out₀ i₀ out i = i ≤ 128
+Inv-loop labels marks used low high out₀ i₀ out i = i ≤ 128
 
 abbrev μ-loop : tie.MeasureT-loop
-μ-loop labels marks low high out₀ i₀ out i = 128 - i
+μ-loop labels marks used low high out₀ i₀ out i = 128 - i
 
 live-requires : tie.Need-live-requires Inv-loop μ-loop
 live-requires c κs = search needs
@@ -49,11 +49,26 @@ element-copy-out-ones-2 c = search needs
 ones-requires-2 : tie.Need-ones-requires-2 Inv-loop μ-loop
 ones-requires-2 c κs = search needs
 
+add-apart : tie.Need-add-apart Inv-loop μ-loop
+add-apart c = search needs
+
+mul-out : tie.Need-mul-out Inv-loop μ-loop
+mul-out c = search needs
+
+array-read-wide : tie.Need-array-read-wide Inv-loop μ-loop
+array-read-wide c = search needs
+
+wide-requires : tie.Need-wide-requires Inv-loop μ-loop
+wide-requires c κs = search needs
+
 add-out : tie.Need-add-out Inv-loop μ-loop
 add-out c = search needs
 
 cast-out : tie.Need-cast-out Inv-loop μ-loop
 cast-out c = search needs
+
+mul-out-2 : tie.Need-mul-out-2 Inv-loop μ-loop
+mul-out-2 c = search needs
 
 array-write-out : tie.Need-array-write-out Inv-loop μ-loop
 array-write-out c = search needs
@@ -89,8 +104,13 @@ degrees-spec =
     mul-ones-4
     element-copy-out-ones-2
     ones-requires-2
+    add-apart
+    mul-out
+    array-read-wide
+    wide-requires
     add-out
     cast-out
+    mul-out-2
     array-write-out
     add-i
     loop-less

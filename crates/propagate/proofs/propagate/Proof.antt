@@ -27,24 +27,32 @@ conflict-requires c κs = search needs
 spread-requires : tie.Need-spread-requires
 spread-requires c κs = search needs
 
+uses-requires : tie.Need-uses-requires
+uses-requires c κs = c .before .before .before .before .before .before .before .before .before .before .before .before .before .before .before .before .before .before .before .before .before .before .before .before .before .before .before .before .before .clamped .ensures .1
+
 degrees-requires : tie.Need-degrees-requires
 degrees-requires c κs = search needs
 
-cast-t41 : tie.Need-cast-t41
-cast-t41 c = search needs
+cast-t45 : tie.Need-cast-t45
+cast-t45 c = search needs
 
 returns : tie.Need-returns
 returns c =
-    let start = c .before .before .before .before .before .before .before .before .before .before .before .before .before .before .before .before .before .before .before .before .before .before .before .before .before .before .before .before .before in
+    let spread = c .before .before .before .before .before .before .before .before in
+    let conflict = spread .before .before .before in
+    let rounds = conflict .before .before .before in
+    let started = rounds .before .before .before .before .before .before .before .before .before in
+    let clamped = started .before .before .before .before .before .before .before .before .before .before in
+    let start = clamped .before in
     let p = start .args in
-    let end : (a : ℕ → ℕ) → Consistent (view (p .t1)) (at (p .t2)) a → Extends (view (p .t1)) (at (p .t3)) a → Knows (c .before .before .before .before .before .before .before .before .before .rounds .last .0) (c .before .before .before .before .before .before .before .before .before .rounds .last .1 .0) (c .before .before .before .before .before .before .before .before .before .rounds .last .1 .1 .0) a =
-    λ a k x. known (p .t1) (p .t2) (p .t3) (c .before .before .before .before .before .before .before .before .before .before .before .before .before .before .before .before .before .before .before .before .before .before .before .before .before .before .before .before .clamped .result) (c .before .before .before .before .before .before .before .before .before .before .before .before .before .before .before .before .before .before .before .before .before .before .before .before .before .before .before .before .clamped .ensures .0) a k x (start .pre .0 a k) (start .pre .1 a k x) (c .before .before .before .before .before .before .before .before .before .before .before .before .before .before .before .before .before .before .start-words .ensures) (c .before .before .before .before .before .before .before .before .before .rounds .ensures) in
+    let end : (a : ℕ → ℕ) → Consistent (view (p .t1)) (at (p .t2)) a → Extends (view (p .t1)) (at (p .t3)) a → Knows (rounds .rounds .last .0) (rounds .rounds .last .1 .0) (rounds .rounds .last .1 .1 .0) a =
+    λ a k x. known (p .t1) (p .t2) (p .t3) (clamped .clamped .result) (clamped .clamped .ensures .0) a k x (start .pre .0 a k) (start .pre .1 a k x) (started .start-words .ensures) (rounds .rounds .ensures) in
     record {
-      dead = λ e a k x. c .before .before .before .before .before .before .conflict .ensures (ltb-true _ _ e) .means a (record { small = start .pre .0 a k; words = end a k x .words; marks = end a k x .marks });
+      dead = λ e a k x. conflict .conflict .ensures (ltb-true _ _ e) .means a (record { small = start .pre .0 a k; words = end a k x .words; marks = end a k x .marks });
       knowing = λ a k x.
           record {
             labels = end a k x .labels;
-            words = c .before .before .before .spread .ensures .means a (record { labels = end a k x .labels; words = end a k x .words });
+            words = spread .spread .ensures .means a (record { labels = end a k x .labels; words = end a k x .words });
             marks = end a k x .marks;
           };
     }
@@ -58,6 +66,7 @@ propagate-spec =
     rounds-requires
     conflict-requires
     spread-requires
+    uses-requires
     degrees-requires
-    cast-t41
+    cast-t45
     returns)

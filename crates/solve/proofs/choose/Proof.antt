@@ -37,11 +37,14 @@ element-copy-out-word-of c = search needs
 word-of-requires : tie.Need-word-of-requires Inv-loop μ-loop
 word-of-requires c κs = search needs
 
+mul-score-2 : tie.Need-mul-score-2 Inv-loop μ-loop
+mul-score-2 c = search needs
+
 element-copy-out-score-2 : tie.Need-element-copy-out-score-2 Inv-loop μ-loop
 element-copy-out-score-2 c = search needs
 
-mul-score-2 : tie.Need-mul-score-2 Inv-loop μ-loop
-mul-score-2 c = search needs
+mul-score-3 : tie.Need-mul-score-3 Inv-loop μ-loop
+mul-score-3 c = search needs
 
 array-read-score : tie.Need-array-read-score Inv-loop μ-loop
 array-read-score c = search needs
@@ -76,8 +79,9 @@ choose-spec =
     element-copy-out-score
     element-copy-out-word-of
     word-of-requires
-    element-copy-out-score-2
     mul-score-2
+    element-copy-out-score-2
+    mul-score-3
     array-read-score
     score-requires
     add-i
