@@ -4,7 +4,8 @@
 Builds the find program and the static library, runs both on the sheets of bench/sheets, on load sheets and on random sheets, checks
 each answer against bench/expected.txt where there is one, and prints per sheet and per family the time of the program, the microseconds
 per call in process and, where cvc5 and z3 are installed, their time on the same sheet in the same run and how many times longer that
-is; then whether the deepest sheet runs on a small stack. Writes target/bench/times.png, a plot of time against the number of terms, where matplotlib is there.
+is; then whether the deepest sheet runs on a small stack. Writes target/bench/times.png, a plot of time against the number of terms,
+where matplotlib is there.
 """
 import argparse
 import pathlib
