@@ -52,7 +52,7 @@ def load_sheet(state, k, n, m):
 
 
 def deep_sheet():
-    """The deepest search: every cell of a table of 12 rows and 11 columns but the last is free, and so is decided one after the other."""
+    """A deep search: 105 cells of a table of 12 rows and 11 columns are free, and so are decided one after the other."""
     rows, columns = 12, 11
     out = record(1, rows, 16) + record(1, columns, 16) + record(1, 2, 16)
     out += record(2, 0) * rows + record(2, 1) * columns + record(2, 2, 0, 1)

@@ -14,7 +14,7 @@ Struck w v = Bit w v
 abbrev pub Begun : Problem → List ℕ → List ℕ → List ℕ → Type 0
 Begun P l w m = (size c : ℕ → ℕ) → Consistent P size c → Knows l w m c
 
--- consistent codes of these sizes are those that words of 16 bits can tell apart
+-- every consistent code of these sizes is below 16, so that a word of 16 bits has a bit for it
 abbrev pub Short : Problem → (ℕ → ℕ) → Type 0
 Short P size = (c : ℕ → ℕ) → Consistent P size c → Small c
 
