@@ -104,14 +104,11 @@ module _ (P : Problem) (q : ℕ → ℕ) (words codes : List ℕ) (n v : ℕ) (h
   read-only u o = record { length = length-set codes n v ∙ len; read = read-step (λ d. absurd (d u)) (λ e. o) }
 
 module _ (P : Problem) (sizes q : ℕ → ℕ) (w : WellSorted P) (small : (s : ℕ) → s < P .sorts → sizes s ≤ 16) (words : List ℕ) (k : Knows P sizes q words) where
-  below-16 : (c : ℕ → ℕ) → Consistent P sizes c → (i : ℕ) → i < P .terms → c i < 16
-  below-16 c con i h = let a = con .range i h in let b = small (P .sort i) (w .sort i h) in omega arith
-
   -- codes that are read off for every term are those of every consistent extension
   pub read-unique : (codes : List ℕ) → Read P q words codes (P .terms) → (c : ℕ → ℕ) → Consistent P sizes c → Extends P q c → (i : ℕ) → i < P .terms → c i ≡ at codes i
   read-unique codes r c con ext i h =
       elim (ℕ-discrete (q i) undecided) [
-        | yes u ↦ r .only i h u (c i) (below-16 c con i h) (k c con ext i h)
+        | yes u ↦ r .only i h u (c i) (short P sizes w small c con i) (k c con ext i h)
         | no d ↦ ext i h d ∙ sym (r .decided i h d)
       ]
 
@@ -238,6 +235,10 @@ module _ (P : Problem) (sizes q c : ℕ → ℕ) where
 
   pub solved-found : Consistent P sizes c → Extends P q c → Solved P sizes q true c
   solved-found con ext = record { consistent = λ e. con; extends = λ e. ext; none = λ e. absurd (false≢true (sym e)) }
+
+-- a code below a size is decided
+pub code-decided : {size : ℕ} (v : ℕ) → v < size → size ≤ 16 → v ≡ undecided → ⊥
+code-decided v h s e = omega arith
 
 -- what is found with one more decided code is found
 pub solved-less : (P : Problem) (sizes c : ℕ → ℕ) (l m : List ℕ) (term v : ℕ) (found : Bool) → at l term ≡ undecided → m ≡ set l term v → found ≡ true → Solved P sizes (at m) found c → Solved P sizes (at l) found c

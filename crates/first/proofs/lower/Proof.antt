@@ -5,8 +5,7 @@ use mathlib.Core.Logic.{inl, inr}
 use native.Mathlib.Omega.{arith}
 use Rattle.sheet.specs.Packed.{view}
 use Rattle.logic.specs.Structure.{at}
-use Rattle.logic.specs.Problem.{undecided}
-use Rattle.solve.proofs.Laws.{Tried, tried-dead, tried-not}
+use Rattle.solve.proofs.Laws.{code-decided, Tried, tried-dead, tried-not}
 use Rattle.first.proofs.Laws.{lowest-zero, lowest-dead, lowest-found, lowest-kept}
 use borrow.Author.Needs.{needs}
 use Rattle.first.proofs.lower.Statement.{statement}
@@ -17,9 +16,6 @@ Inv-loop p sizes decided term size word first flags best high learnt₀ v₀ lea
 
 abbrev μ-loop : tie.MeasureT-loop
 μ-loop p sizes decided term size word first flags best high learnt₀ v₀ learnt v = high - v
-
-not-undecided : {size : ℕ} (v : ℕ) → v < size → size ≤ 16 → v ≡ undecided → ⊥
-not-undecided v h s e = omega arith
 
 array-read-if1 : tie.Need-array-read-if1 Inv-loop μ-loop
 array-read-if1 c = omega (arith, c .pre .0 .terms, c .pre .1 .1 .0 .0)
@@ -68,7 +64,7 @@ returns-3 c =
     let b = c .before .before .before .before .before .before .before .before .before .before .before .plan .ensures .branches (c .before .before .before .before .before .before .before .before .before .before .if2 .left) in
     let s = c .before .before .before .before .before .before .before .before .before .before .before .before .before in
     let below = c .before .before .before .before .worth .ensures .yes (c .before .before .before .if3 .taken) .below in
-    lowest-found _ _ (s .args .decided) (s .args .term) _ _ _ _ (l .loop .v) b (l .loop .inv .1) _ (c .before .solve .result .codes) _ (omega (arith, s .pre .0 .terms, s .pre .1 .1 .0 .0, s .good .1 .1 .0 .1 .0 .1)) (not-undecided _ below (b .small)) (c .before .before .decide .ensures) (c .if4 .taken) (c .before .solve .ensures)
+    lowest-found _ _ (s .args .decided) (s .args .term) _ _ _ _ (l .loop .v) b (l .loop .inv .1) _ (c .before .solve .result .codes) _ (omega (arith, s .pre .0 .terms, s .pre .1 .1 .0 .0, s .good .1 .1 .0 .1 .0 .1)) (code-decided _ below (b .small)) (c .before .before .decide .ensures) (c .if4 .taken) (c .before .solve .ensures)
 
 add-v : tie.Need-add-v Inv-loop μ-loop
 add-v c =

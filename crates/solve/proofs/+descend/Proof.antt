@@ -9,7 +9,7 @@ use Rattle.sheet.specs.Packed.{view}
 use Rattle.logic.specs.Structure.{at}
 use Rattle.logic.specs.Problem.{undecided}
 use Rattle.logic.proofs.Decided.{openings, decide-fewer}
-use Rattle.solve.proofs.Laws.{short, knowing-struck, knowing-decided, Tried, tried-dead, tried-not, branches-dead, solved-none, solved-found, solved-less}
+use Rattle.solve.proofs.Laws.{code-decided, short, knowing-struck, knowing-decided, Tried, tried-dead, tried-not, branches-dead, solved-none, solved-found, solved-less}
 use borrow.Fn.Kinds.{In}
 use borrow.Fn.PlainCycle.{Measures, is, falls, and}
 use Rattle.solve.proofs.descend.Reads as descend
@@ -37,9 +37,6 @@ descend-Inv-loop p sizes decided labels words marks o codes learnt₀ term size 
 
 abbrev descend-μ-loop : descend-lts.MeasureT-loop
 descend-μ-loop p sizes decided labels words marks o codes learnt₀ term size word first flags v₀ learnt v = size - v
-
-not-undecided : {size : ℕ} (v : ℕ) → v < size → size ≤ 16 → v ≡ undecided → ⊥
-not-undecided v h s e = omega arith
 
 descend-propagate-requires : (t : ℕ) → descend-lts.Need-propagate-requires (
   propagate-reads.Asked,
@@ -166,7 +163,7 @@ descend-descend-requires t c κs =
     let s = b .small in (
       subst (λ (k : ℕ). openings (c .before .before .before .before .decide .result) < k) (start .pre .0)
           (subst (λ (m : List ℕ). openings m < openings (start .args .decided)) (sym (c .before .before .before .before .decide .ensures))
-          (decide-fewer (start .args .decided) (c .before .before .before .before .before .before .before .before .before .before .before .before .before .before .node .result .term) (c .before .before .before .before .before .before .before .before .loop .v) (b .pending) (not-undecided _ h s))),
+          (decide-fewer (start .args .decided) (c .before .before .before .before .before .before .before .before .before .before .before .before .before .before .node .result .term) (c .before .before .before .before .before .before .before .before .loop .v) (b .pending) (code-decided _ h s))),
       (start .pre .1 .0, (start .pre .1 .1 .0, knowing-decided _ _ _ _ _ (start .args .decided) _ (c .before .before .before .before .before .before .before .before .before .before .before .before .before .before .node .result .term) (c .before .before .before .before .before .before .before .before .loop .v) (c .before .before .before .before .before .before .before .before .before .before .before .before .before .before .before .before .before .before .before .propagate .ensures .knowing) (b .pending) (c .before .before .before .before .decide .ensures))),
     )
 
