@@ -1,19 +1,19 @@
 -- Two structures that agree on a sheet's sorts and cells answer it alike.
 use Prim.Native.Nat.{ℕ, _<_}
-use mathlib.Core.Path.{_≡_, sym, _∙_}
+use mathlib.Core.Path.{_≡_, ap, sym, _∙_}
 use mathlib.Core.List.{List, [], _∷_, map}
 use lib.ListN.{length}
 use native.Mathlib.Omega.{arith}
 use Rattle.logic.specs.Sheet.{Sheet, symbolAt, termAt}
 use Rattle.logic.specs.WellFormed.{WellFormed, Each}
-use Rattle.logic.specs.Structure.{Structure, InSorts, Interprets, Candidate, codes, code}
-use Rattle.logic.specs.Order.{sizesOf, sumOf}
+use Rattle.logic.specs.Structure.{Structure, InSorts, Interprets, Candidate, codes, code, at}
+use Rattle.logic.specs.Order.{sizesOf, sumOf, NoLater}
 use Rattle.logic.proofs.Codes.{reached-in-params, same-code, same-codes, satisfies-same}
 use Rattle.logic.proofs.Meaning.{firsts-same, sumTo-same}
 use Rattle.tables.specs.Layout.{decoded, encoded}
 use Rattle.tables.proofs.Tables.{encoded-size, decoded-cell}
 use Rattle.finder.specs.Answer.{Entry, sum}
-use Rattle.finder.specs.Demand.{Answers}
+use Rattle.finder.specs.Demand.{Answers, Unreached}
 
 -- N has M's sizes, and its tables hold what M's hold
 pub record Alike (sh : Sheet) (M N : Structure) : Type 0 where
@@ -53,6 +53,16 @@ module _ (sh : Sheet) (w : WellFormed sh) (M N : Structure) (a : Alike sh M N) w
   reached k i h =
       sym (a .table (termAt sh i .symbol) (w .symbol i h) (map (code M sh) (termAt sh i .args)) (reached-in-params M sh w k i h))
 
+  alike-codes : Interprets M sh → codes N sh ≡ codes M sh
+  alike-codes k = sym (same-codes M N sh w (reached k))
+
+  -- a cell of N that no term reaches is such a cell of M, and holds the same
+  pub alike-unreached : Interprets M sh → (f : ℕ) → f < length (sh .symbols) → (xs : List ℕ) → InSorts (N .size) (symbolAt sh f .params) xs → Unreached sh N f xs → Unreached sh M f xs × (N .table f xs ≡ M .table f xs)
+  alike-unreached k f h xs i free = (
+    λ j l p q. free j l p (ap (λ (cs : List ℕ). map (at cs) (termAt sh j .args)) (alike-codes k) ∙ q),
+    a .table f h xs (in-sorts-same (length (sh .bounds)) (M .size) (N .size) (a .size) (symbolAt sh f .params) xs (w .params f h) i),
+  )
+
   pub alike-answers : (e : Entry) → Answers sh e M → Answers sh e N
   alike-answers e k =
       record {
@@ -61,11 +71,17 @@ module _ (sh : Sheet) (w : WellFormed sh) (M N : Structure) (a : Alike sh M N) w
         sum = sums ∙ k .sum;
         sizes = sizes ∙ k .sizes;
         codes = same ∙ k .codes;
-        first = λ K c s l. k .first K c s (rw (← sums, ← sizes, ← same) l);
+        first = λ K c s.
+            let m : NoLater sh M K = k .first K c s in
+            record {
+              sum = rw sums (m .sum);
+              sizes = rw (sums, sizes) (m .sizes);
+              codes = rw (sizes, same) (m .codes);
+            };
       }
     where
       same : codes N sh ≡ codes M sh
-      same = sym (same-codes M N sh w (reached (k .candidate .interprets)))
+      same = alike-codes (k .candidate .interprets)
 
       sums : sumOf N sh ≡ sumOf M sh
       sums = sumTo-same (length (sh .bounds)) (N .size) (M .size) (a .size)

@@ -1,6 +1,6 @@
 -- Demand 3 of the bytes: what a call gives back and leaves in the buffers is the answer of the sheet, and only that.
 use Prim.Native.Nat.{ℕ, _≤_, _<_}
-use mathlib.Core.Path.{_≡_, refl, ap, sym, _∙_}
+use mathlib.Core.Path.{_≡_, refl, ap, ap₂, sym, _∙_}
 use mathlib.Core.Logic.{inl, inr}
 use mathlib.Core.List.{List}
 use mathlib.Core.Option.{Option, none, some}
@@ -17,7 +17,7 @@ use Rattle.tables.proofs.Tables.{length-encoded, encoded-size, encoded-laid, ex
 use Rattle.judge.specs.Judge.{judgedOf, judgement}
 use Rattle.tables.specs.declared.Judgement.the-variants.{Fits}
 use Rattle.judge.proofs.Judged.{judged-says}
-use Rattle.finder.specs.Answer.{Entry, answer, sum, structureOf}
+use Rattle.finder.specs.Answer.{Entry, answer, sum, structureOf, unforced}
 use Rattle.finder.specs.Find.{ceilings, answering, finding, codesAfter, tablesAfter}
 use Rattle.finder.specs.Demand.{Answers, Delivered, Promised, codesWritten, tablesWritten}
 use Rattle.finder.specs.declared.Finding.the-variants.{Found, Refused}
@@ -25,7 +25,7 @@ use Rattle.finder.proofs.Lists.{found-or-none}
 use Rattle.finder.proofs.Demand.{demand}
 use Rattle.finder.proofs.Outcomes.{outcome-long}
 use Rattle.finder.proofs.Buffers.{Exit, exit, front-fronted, rest-fronted}
-use Rattle.finder.proofs.Alike.{alike-answers, round-trip}
+use Rattle.finder.proofs.Alike.{alike-answers, alike-unreached, round-trip}
 
 module _ (sh : Sheet) (w : WellFormed sh) (s cs ts : List ℕ) (reads : reading s ≡ accepted sh) (codesFit : length (sh .terms) ≤ length cs) (tablesFit : extent sh (ceilings sh) ≤ length ts) where
   -- what the answer makes of the call
@@ -84,6 +84,11 @@ module _ (sh : Sheet) (w : WellFormed sh) (s cs ts : List ℕ) (reads : reading 
           sum = sym (g .sum);
           codes = told ∙ sym (g .codes);
           first = g .first;
+          unreached = λ f h xs i free.
+              let r = alike-unreached sh w (structureOf sh e) (decoded sh bytes) (round-trip sh w (structureOf sh e)) (given .candidate .interprets) f h xs i free in
+              r .1
+              ∙ demand sh w .unreached e q f xs (r .0)
+              ∙ ap₂ (λ (sizes codes : List ℕ). unforced sh (record { sizes = sizes; codes = codes }) f xs) (sym (g .sizes)) (sym told);
         })
 
     behind-codes : drop (length (sh .terms)) (codesAfter s cs ts) ≡ drop (length (sh .terms)) cs

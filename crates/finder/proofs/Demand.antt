@@ -7,10 +7,11 @@ use mathlib.Core.List.{List, _∷_, map}
 use mathlib.Core.Option.{Option, none, some, Option·getD}
 use lib.ListN.{length}
 use native.Mathlib.Omega.{arith}
-use Rattle.logic.specs.Sheet.{Sheet, symbolAt, termAt}
+use Rattle.logic.specs.Sheet.{Sheet, boundAt, symbolAt, termAt}
 use Rattle.logic.specs.WellFormed.{WellFormed}
 use Rattle.logic.specs.Structure.{Structure, InSorts, Candidate, Satisfies, codes, code, at, sumTo}
 use Rattle.logic.specs.Order.{firsts, Before, sizesOf, sumOf, Earlier}
+use Rattle.logic.proofs.OrderLaws.{no-later-exactly}
 use Rattle.logic.proofs.Meaning.{map-each, code-below, code-congruent, codes-own, length-codes, firsts-at, firsts-same}
 use Rattle.sheet.specs.Layout.{accepted, reading}
 use Rattle.sheet.proofs.Answers.{accepted-well-formed}
@@ -102,7 +103,9 @@ answers-with sh w e q u t =
       sum = sums;
       sizes = k .sizes;
       codes = own;
-      first = λ N c s l. no-sooner (structure-fits sh w N c s) (earlier-sooner sh e k N (structureWith u sh e) (k .sizes) sums own l);
+      first = λ N c s.
+          no-later-exactly sh (structureWith u sh e) N .1
+          (λ l. no-sooner (structure-fits sh w N c s) (earlier-sooner sh e k N (structureWith u sh e) (k .sizes) sums own l));
     }
   where
     k : Chosen sh e
@@ -152,3 +155,7 @@ demand sh w =
 -- THEOREM: demand 3 of every accepted sheet
 pub accepted-demand : (s : List ℕ) (sh : Sheet) → reading s ≡ accepted sh → Demand sh
 accepted-demand s sh q = demand sh (accepted-well-formed s sh q)
+
+-- a floor above its ceiling leaves no candidate: refusal 11
+pub floor-above-ceiling : (sh : Sheet) (s : ℕ) → s < length (sh .bounds) → boundAt sh s .ceiling < boundAt sh s .floor → Hopeless sh
+floor-above-ceiling sh s h l M k q = omega (arith, k .bounded .floor s h, k .bounded .ceiling s h)

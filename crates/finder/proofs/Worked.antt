@@ -1,48 +1,62 @@
--- Every worked sheet of document 01 comes out as its row says, for all buffers that are long enough. The listing computes each row but
+-- Every worked sheet of document 01 comes out as its row says, for all buffers that are long enough for it. The listing computes each row but
 -- the eleventh, which follows from the congruence alone, whatever the bounds.
-use Prim.Native.Nat.{ℕ, _≤_}
+use Prim.Native.Nat.{ℕ, _≤_, _<_}
 use mathlib.Core.Path.{_≡_, refl, ap, sym, _∙_}
 use mathlib.Core.Bool.{true, false}
+use mathlib.Core.Logic.{_⊎_, inl, inr}
 use mathlib.Core.List.{List, [], _∷_}
 use mathlib.Core.Option.{Option, none}
 use lib.ListN.{length}
-use lib.Dec.{lit<, lit≤}
+use lib.Dec.{lit<}
 use native.Mathlib.Omega.{arith}
 use Rattle.logic.specs.Sheet.{Sheet, Bound, Symbol}
 use Rattle.sheet.specs.Layout.{Reading, accepted, refused, empty, reading, readFrom, cause}
 use Rattle.tables.specs.Layout.{extent}
 use Rattle.finder.specs.Answer.{Entry, answer, solves, unforced}
-use Rattle.finder.specs.Find.{ceilings, answering, finds, fronted, codesIn, tablesIn}
-use Rattle.finder.specs.Worked.{Row, row1, row2, row3, row4, row5, row6, row7, row8, row9, row10, row11, row12, row13, row14, printed, rows, Shows, All, mostCodes, mostTables}
+use Rattle.finder.specs.Find.{turnedDown, ceilings, answering, finds, fronted, codesIn, tablesIn}
+use Rattle.finder.specs.Worked.{Row, row1, row2, row3, row4, row5, row6, row7, row8, row9, row10, row11, row12, row13, row14, printed, rows, Shown, Shows, All}
 use Rattle.finder.proofs.Solving.{Solution}
 use Rattle.finder.proofs.Listing.{unsolvable}
-use Rattle.finder.proofs.Outcomes.{outcome-long}
+use Rattle.finder.proofs.Outcomes.{outcome-long, outcome-short}
 use Rattle.finder.proofs.Buffers.{Exit, exit}
 
 -- the sheet that bytes define
-abbrev sheetIn : Reading → Sheet
+abbrev pub sheetIn : Reading → Sheet
 sheetIn (accepted sh) = sh
 sheetIn (refused n i) = empty
 
-abbrev sheetOf : Row → Sheet
+abbrev pub sheetOf : Row → Sheet
 sheetOf r = sheetIn (reading (r .sheet))
 
--- what has to be computed of a row: its bytes are accepted, the buffers suffice, and its answer a gives what the row says
+-- what has to be computed of a row: its bytes are accepted, it asks for the buffers that the sheet needs, and its answer a gives what the
+-- row says
 record Computed (r : Row) (a : Option Entry) : Type 0 where
   reads : reading (r .sheet) ≡ accepted (sheetOf r)
-  codesFit : length (sheetOf r .terms) ≤ mostCodes
-  tablesFit : extent (sheetOf r) (ceilings (sheetOf r)) ≤ mostTables
+  codesFit : length (sheetOf r .terms) ≡ r .codeBytes
+  tablesFit : extent (sheetOf r) (ceilings (sheetOf r)) ≡ r .tableBytes
   answers : answer (sheetOf r) ≡ a
   result : finds (answering (sheetOf r) a) ≡ r .result
   codes : (cs : List ℕ) → codesIn (answering (sheetOf r) a) cs ≡ fronted (r .codes) cs
   tables : (ts : List ℕ) → tablesIn (answering (sheetOf r) a) ts ≡ fronted (r .tables) ts
 
-shown : (r : Row) (a : Option Entry) → Computed r a → Shows r
-shown r a k cs ts h l =
-    let x : Exit (r .sheet) cs ts (answering (sheetOf r) a) =
-    exit (r .sheet) cs ts (answering (sheetOf r) a)
-    (outcome-long (r .sheet) (sheetOf r) a (length cs) (length ts) (k .reads) (omega (arith, k .codesFit)) (omega (arith, k .tablesFit)) (k .answers)) in
-    record { result = x .result ∙ k .result; codes = x .codes ∙ k .codes cs; tables = x .tables ∙ k .tables ts }
+module _ (r : Row) (a : Option Entry) (k : Computed r a) where
+  shown : (cs ts : List ℕ) → r .codeBytes ≤ length cs → r .tableBytes ≤ length ts → Shown r cs ts
+  shown cs ts h l =
+      let x : Exit (r .sheet) cs ts (answering (sheetOf r) a) =
+      exit (r .sheet) cs ts (answering (sheetOf r) a)
+      (outcome-long (r .sheet) (sheetOf r) a (length cs) (length ts) (k .reads) (omega (arith, k .codesFit)) (omega (arith, k .tablesFit)) (k .answers)) in
+      record { result = x .result ∙ k .result; codes = x .codes ∙ k .codes cs; tables = x .tables ∙ k .tables ts }
+
+  less : (nc nt : ℕ) → (nc < r .codeBytes) ⊎ (nt < r .tableBytes) → (nc < length (sheetOf r .terms)) ⊎ (nt < extent (sheetOf r) (ceilings (sheetOf r)))
+  less nc nt (inl h) = inl (omega (arith, k .codesFit))
+  less nc nt (inr h) = inr (omega (arith, k .tablesFit))
+
+  shows : Shows r
+  shows =
+      record {
+        shown = shown;
+        short = λ cs ts h. exit (r .sheet) cs ts (turnedDown 10 0) (outcome-short (r .sheet) (sheetOf r) (length cs) (length ts) (k .reads) (less (length cs) (length ts) h)) .result;
+      }
 
 -- x same f applied 3 times and 5 times: then x is the same as f(x)
 abbrev threeAndFive : List Bound → List Symbol → ℕ → Sheet
@@ -76,18 +90,18 @@ contradictory bounds symbols total c s =
     s .meets 2 (lit< tt) (three ∙ sym third)
 
 -- a row whose answer the listing computes
-plainly : (r : Row) → reading (r .sheet) ≡ accepted (sheetOf r) → length (sheetOf r .terms) ≤ mostCodes → extent (sheetOf r) (ceilings (sheetOf r)) ≤ mostTables → finds (answering (sheetOf r) (answer (sheetOf r))) ≡ r .result → ((cs : List ℕ) → codesIn (answering (sheetOf r) (answer (sheetOf r))) cs ≡ fronted (r .codes) cs) → ((ts : List ℕ) → tablesIn (answering (sheetOf r) (answer (sheetOf r))) ts ≡ fronted (r .tables) ts) → Shows r
+plainly : (r : Row) → reading (r .sheet) ≡ accepted (sheetOf r) → length (sheetOf r .terms) ≡ r .codeBytes → extent (sheetOf r) (ceilings (sheetOf r)) ≡ r .tableBytes → finds (answering (sheetOf r) (answer (sheetOf r))) ≡ r .result → ((cs : List ℕ) → codesIn (answering (sheetOf r) (answer (sheetOf r))) cs ≡ fronted (r .codes) cs) → ((ts : List ℕ) → tablesIn (answering (sheetOf r) (answer (sheetOf r))) ts ≡ fronted (r .tables) ts) → Shows r
 plainly r p h l q c t =
-    shown r (answer (sheetOf r)) (record { reads = p; codesFit = h; tablesFit = l; answers = refl; result = q; codes = c; tables = t })
+    shows r (answer (sheetOf r)) (record { reads = p; codesFit = h; tablesFit = l; answers = refl; result = q; codes = c; tables = t })
 
 eleventh : Shows row11
 unfolding reading readFrom cause
 eleventh =
-    shown row11 none
+    shows row11 none
     (record {
       reads = refl;
-      codesFit = lit≤ tt;
-      tablesFit = lit≤ tt;
+      codesFit = refl;
+      tablesFit = refl;
       answers = unsolvable (sheetOf row11) (contradictory (sheetOf row11 .bounds) (sheetOf row11 .symbols) (sheetOf row11 .total));
       result = refl;
       codes = λ cs. refl;
@@ -98,35 +112,35 @@ eleventh =
 pub worked : All Shows rows
 unfolding answer solves reading readFrom cause unforced
 worked = (
-  plainly row1 refl (lit≤ tt) (lit≤ tt) refl (λ cs. refl) (λ ts. refl),
+  plainly row1 refl refl refl refl (λ cs. refl) (λ ts. refl),
   (
-    plainly row2 refl (lit≤ tt) (lit≤ tt) refl (λ cs. refl) (λ ts. refl),
+    plainly row2 refl refl refl refl (λ cs. refl) (λ ts. refl),
     (
-      plainly row3 refl (lit≤ tt) (lit≤ tt) refl (λ cs. refl) (λ ts. refl),
+      plainly row3 refl refl refl refl (λ cs. refl) (λ ts. refl),
       (
-        plainly row4 refl (lit≤ tt) (lit≤ tt) refl (λ cs. refl) (λ ts. refl),
+        plainly row4 refl refl refl refl (λ cs. refl) (λ ts. refl),
         (
-          plainly row5 refl (lit≤ tt) (lit≤ tt) refl (λ cs. refl) (λ ts. refl),
+          plainly row5 refl refl refl refl (λ cs. refl) (λ ts. refl),
           (
-            plainly row6 refl (lit≤ tt) (lit≤ tt) refl (λ cs. refl) (λ ts. refl),
+            plainly row6 refl refl refl refl (λ cs. refl) (λ ts. refl),
             (
-              plainly row7 refl (lit≤ tt) (lit≤ tt) refl (λ cs. refl) (λ ts. refl),
+              plainly row7 refl refl refl refl (λ cs. refl) (λ ts. refl),
               (
-                plainly row8 refl (lit≤ tt) (lit≤ tt) refl (λ cs. refl) (λ ts. refl),
+                plainly row8 refl refl refl refl (λ cs. refl) (λ ts. refl),
                 (
-                  plainly row9 refl (lit≤ tt) (lit≤ tt) refl (λ cs. refl) (λ ts. refl),
+                  plainly row9 refl refl refl refl (λ cs. refl) (λ ts. refl),
                   (
-                    plainly row10 refl (lit≤ tt) (lit≤ tt) refl (λ cs. refl) (λ ts. refl),
+                    plainly row10 refl refl refl refl (λ cs. refl) (λ ts. refl),
                     (
                       eleventh,
                       (
-                        plainly row12 refl (lit≤ tt) (lit≤ tt) refl (λ cs. refl) (λ ts. refl),
+                        plainly row12 refl refl refl refl (λ cs. refl) (λ ts. refl),
                         (
-                          plainly row13 refl (lit≤ tt) (lit≤ tt) refl (λ cs. refl) (λ ts. refl),
+                          plainly row13 refl refl refl refl (λ cs. refl) (λ ts. refl),
                           (
-                            plainly row14 refl (lit≤ tt) (lit≤ tt) refl (λ cs. refl) (λ ts. refl),
+                            plainly row14 refl refl refl refl (λ cs. refl) (λ ts. refl),
                             (
-                              plainly printed refl (lit≤ tt) (lit≤ tt) refl (λ cs. refl) (λ ts. refl),
+                              plainly printed refl refl refl refl (λ cs. refl) (λ ts. refl),
                               tt,
                             ),
                           ),

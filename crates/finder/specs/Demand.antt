@@ -8,21 +8,22 @@ use mathlib.Core.Option.{none, some}
 use lib.ListN.{length, take, drop}
 use Rattle.logic.specs.Sheet.{Sheet, symbolAt, termAt}
 use Rattle.logic.specs.Structure.{Structure, InSorts, Candidate, Satisfies, codes, code, at}
-use Rattle.logic.specs.Order.{sizesOf, sumOf, Earlier}
+use Rattle.logic.specs.Order.{sizesOf, sumOf, NoLater}
 use Rattle.tables.specs.Layout.{extent, decoded, WellLaid}
 use Rattle.finder.specs.Answer.{Entry, answer, sum, structureOf, unforced}
 use Rattle.finder.specs.Find.{finding, codesAfter, tablesAfter}
 use Rattle.finder.specs.declared.Finding.the-variants.{Found, Refused}
 
 -- The structure M answers the sheet with the sizes and codes of an entry: it is a candidate that satisfies every statement; sum, sizes
--- and codes are its own; and no candidate that satisfies every statement comes earlier in sum, then sizes, then codes.
+-- and codes are its own; and every candidate that satisfies every statement has at least that sum; where its sum is the same, its sizes are
+-- the same or come later; where these are the same, its codes are the same or come later.
 pub record Answers (sh : Sheet) (e : Entry) (M : Structure) : Type 0 where
   pub candidate : Candidate M sh
   pub satisfies : Satisfies M sh
   pub sum : sumOf M sh ≡ sum (e .sizes)
   pub sizes : sizesOf M sh ≡ e .sizes
   pub codes : codes M sh ≡ e .codes
-  pub first : (N : Structure) → Candidate N sh → Satisfies N sh → Earlier sh N M → ⊥
+  pub first : (N : Structure) → Candidate N sh → Satisfies N sh → NoLater sh M N
 
 -- no candidate satisfies every statement
 abbrev pub Hopeless : Sheet → Type 0
@@ -41,14 +42,16 @@ pub record Demand (sh : Sheet) : Type 0 where
   pub unreached : (e : Entry) → answer sh ≡ some e → (f : ℕ) (xs : List ℕ) → Unreached sh (structureOf sh e) f xs → structureOf sh e .table f xs ≡ unforced sh e f xs
 
 -- The same of what a call leaves behind: the number it gives, the codes C and the tables T that it wrote. The tables are well laid, and
--- the structure that they hold is a candidate that satisfies every statement; the sum and the codes are its own; none comes earlier.
+-- the structure that they hold is a candidate that satisfies every statement; the sum and the codes are its own; every other such candidate
+-- comes no earlier; and a cell that no term reaches is unforced.
 pub record Delivered (sh : Sheet) (n : ℕ) (C T : List ℕ) : Type 0 where
   pub laid : WellLaid sh T
   pub candidate : Candidate (decoded sh T) sh
   pub satisfies : Satisfies (decoded sh T) sh
   pub sum : n ≡ sumOf (decoded sh T) sh
   pub codes : C ≡ codes (decoded sh T) sh
-  pub first : (N : Structure) → Candidate N sh → Satisfies N sh → Earlier sh N (decoded sh T) → ⊥
+  pub first : (N : Structure) → Candidate N sh → Satisfies N sh → NoLater sh (decoded sh T) N
+  pub unreached : (f : ℕ) → f < length (sh .symbols) → (xs : List ℕ) → InSorts (at T) (symbolAt sh f .params) xs → Unreached sh (decoded sh T) f xs → decoded sh T .table f xs ≡ unforced sh (record { sizes = sizesOf (decoded sh T) sh; codes = C }) f xs
 
 -- the codes and the tables in front of the two buffers
 abbrev pub codesWritten : Sheet → List ℕ → List ℕ

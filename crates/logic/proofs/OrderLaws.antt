@@ -1,13 +1,16 @@
--- "Comes first" on lists is a strict order, and the same order by functions.
+-- "Comes first" on lists of one length is a strict total order, and the same order by functions; so is the order of structures by sum, then
+-- sizes, then codes.
 use Prim.Native.Nat.{ℕ, zero, suc, _≤_, _<_}
-use mathlib.Core.Path.{_≡_, sym, _∙_}
-use mathlib.Core.Logic.{inl, inr}
+use mathlib.Core.Path.{_≡_, refl, ap, ap₂, sym, _∙_, subst}
+use mathlib.Core.Logic.{_⊎_, inl, inr, _↔_}
 use mathlib.Core.List.{List, [], _∷_}
 use lib.ListN.{length}
+use native.Mathlib.Decide.{decLt}
 use native.Mathlib.Omega.{arith}
-use Rattle.logic.specs.Structure.{at}
-use Rattle.logic.specs.Order.{Before, firsts, NotAfter}
-use Rattle.logic.proofs.Meaning.{length-firsts, at-firsts}
+use Rattle.logic.specs.Sheet.{Sheet}
+use Rattle.logic.specs.Structure.{Structure, codes, at, sumTo}
+use Rattle.logic.specs.Order.{Before, firsts, sizesOf, sumOf, Earlier, NoLater, NotAfter}
+use Rattle.logic.proofs.Meaning.{length-firsts, at-firsts, sumTo-same, length-codes}
 
 -- of two lists, neither comes before the other and after it
 pub before-asym : (xs ys : List ℕ) → Before xs ys → Before ys xs → ⊥
@@ -20,6 +23,64 @@ before-asym (x ∷ xs) (y ∷ ys) (inr l) (inr m) = before-asym xs ys (l .1) (m 
 
 pub before-irrefl : (xs : List ℕ) → Before xs xs → ⊥
 before-irrefl xs b = before-asym xs xs b b
+
+-- of two lists of one length that differ, one comes first
+pub before-total : (xs ys : List ℕ) → length xs ≡ length ys → (xs ≡ ys) ⊎ (Before xs ys ⊎ Before ys xs)
+before-total [] [] h = inl refl
+before-total [] (y ∷ ys) h = absurd (omega arith)
+before-total (x ∷ xs) [] h = absurd (omega arith)
+before-total (x ∷ xs) (y ∷ ys) h =
+    elim (decLt x y) [
+      | yes l ↦ inr (inl (inl l))
+      | no m ↦ elim (decLt y x) [ yes l ↦ inr (inr (inl l)) | no k ↦ heads (omega arith) (before-total xs ys (omega arith)) ]
+    ]
+  where
+    heads : x ≡ y → (xs ≡ ys) ⊎ (Before xs ys ⊎ Before ys xs) → (x ∷ xs ≡ y ∷ ys) ⊎ (Before (x ∷ xs) (y ∷ ys) ⊎ Before (y ∷ ys) (x ∷ xs))
+    heads e (inl q) = inl (ap₂ (λ (z : ℕ) (zs : List ℕ). z ∷ zs) e q)
+    heads e (inr (inl b)) = inr (inl (inr (e, b)))
+    heads e (inr (inr b)) = inr (inr (inr (sym e, b)))
+
+-- The same, said of the list xs that does not come after ys.
+same-or-before : (xs ys : List ℕ) → length xs ≡ length ys → (Before ys xs → ⊥) → (ys ≡ xs) ⊎ Before xs ys
+same-or-before xs ys h free = step (before-total xs ys h)
+  where
+    step : (xs ≡ ys) ⊎ (Before xs ys ⊎ Before ys xs) → (ys ≡ xs) ⊎ Before xs ys
+    step (inl e) = inl (sym e)
+    step (inr (inl b)) = inr b
+    step (inr (inr b)) = absurd (free b)
+
+not-before : (xs ys : List ℕ) → (ys ≡ xs) ⊎ Before xs ys → Before ys xs → ⊥
+not-before xs ys (inl e) b = before-irrefl xs (subst (λ (l : List ℕ). Before l xs) e b)
+not-before xs ys (inr c) b = before-asym xs ys c b
+
+-- equal lists of values have equal sums
+sum-same : (n : ℕ) (f g : ℕ → ℕ) → firsts n f ≡ firsts n g → sumTo n f ≡ sumTo n g
+sum-same n f g e = sumTo-same n f g (λ i h. sym (at-firsts n f i h) ∙ ap (λ (l : List ℕ). at l i) e ∙ at-firsts n g i h)
+
+-- M comes no later than N exactly when N does not come earlier than M
+pub no-later-exactly : (sh : Sheet) (M N : Structure) → NoLater sh M N ↔ (Earlier sh N M → ⊥)
+no-later-exactly sh M N = (never, always)
+  where
+    never : NoLater sh M N → Earlier sh N M → ⊥
+    never k (inl l) = omega (arith, k .sum)
+    never k (inr (e, inl b)) = not-before (sizesOf M sh) (sizesOf N sh) (k .sizes e) b
+    never k (inr (e, inr (q, b))) = not-before (codes M sh) (codes N sh) (k .codes q) b
+
+    least : (Earlier sh N M → ⊥) → sumOf M sh ≤ sumOf N sh
+    least free = elim (decLt (sumOf N sh) (sumOf M sh)) [ yes l ↦ absurd (free (inl l)) | no m ↦ omega arith ]
+
+    always : (Earlier sh N M → ⊥) → NoLater sh M N
+    always free =
+        record {
+          sum = least free;
+          sizes = λ e.
+              same-or-before (sizesOf M sh) (sizesOf N sh)
+              (length-firsts (length (sh .bounds)) (M .size) ∙ sym (length-firsts (length (sh .bounds)) (N .size)))
+              (λ b. free (inr (e, inl b)));
+          codes = λ q.
+              same-or-before (codes M sh) (codes N sh) (length-codes M sh ∙ sym (length-codes N sh))
+              (λ b. free (inr (sum-same (length (sh .bounds)) (N .size) (M .size) q, inr (q, b))));
+        }
 
 -- the place where xs has the smaller entry, none before it differing
 pub record Place (xs ys : List ℕ) : Type 0 where

@@ -32,6 +32,13 @@ Earlier sh M N =
     ⊎ ((sumOf M sh ≡ sumOf N sh)
     × (Before (sizesOf M sh) (sizesOf N sh) ⊎ ((sizesOf M sh ≡ sizesOf N sh) × Before (codes M sh) (codes N sh))))
 
+-- M comes no later than N: N has at least M's sum; where N's sum is the same, its sizes are the same or come later; where these are the
+-- same, its codes are the same or come later. `no-later-exactly` of proofs/OrderLaws.antt: exactly when N does not come earlier.
+pub record NoLater (sh : Sheet) (M N : Structure) : Type 0 where
+  pub sum : sumOf M sh ≤ sumOf N sh
+  pub sizes : sumOf N sh ≡ sumOf M sh → (sizesOf N sh ≡ sizesOf M sh) ⊎ Before (sizesOf M sh) (sizesOf N sh)
+  pub codes : sizesOf N sh ≡ sizesOf M sh → (codes N sh ≡ codes M sh) ⊎ Before (codes M sh) (codes N sh)
+
 -- The same order on the first n values of two functions: at the first place where they differ, f is not the larger.
 abbrev pub NotAfter : ℕ → (ℕ → ℕ) → (ℕ → ℕ) → Type 0
 NotAfter n f g = (j : ℕ) → j < n → ((i : ℕ) → i < j → f i ≡ g i) → f j ≤ g j
