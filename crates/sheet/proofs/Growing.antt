@@ -30,7 +30,7 @@ more {A = A} P l a d old new i h = go (ltb i (length l)) refl
         let z : length l ≡ i = omega arith in
         subst (λ (x : ℕ). P x (getD (l ++ (a ∷ [])) x d)) z (rw (getD-append-seam l a [] d) new)
 
-sameList-same : (xs ys : List ℕ) → sameList xs ys ≡ true → xs ≡ ys
+pub sameList-same : (xs ys : List ℕ) → sameList xs ys ≡ true → xs ≡ ys
 sameList-same [] [] e = refl
 sameList-same [] (y ∷ ys) e = absurd (true≢false (sym e))
 sameList-same (x ∷ xs) [] e = absurd (true≢false (sym e))
@@ -38,7 +38,7 @@ sameList-same (x ∷ xs) (y ∷ ys) e =
     let h = and-both (eqb x y) (sameList xs ys) e in
     cc (eqb-true x y (h .0), sameList-same xs ys (h .1))
 
-same-sameList : (xs : List ℕ) → sameList xs xs ≡ true
+pub same-sameList : (xs : List ℕ) → sameList xs xs ≡ true
 same-sameList [] = refl
 same-sameList (x ∷ xs) = rw (eq-eqb x x refl) (same-sameList xs)
 

@@ -102,12 +102,16 @@ module _ (q : Payload) (h : Short q) where
       go (suc (suc (suc zero))) e e′ = ap (λ (b : Bool). ltb (q .b1) n && b) (sym (and-true (ltb (q .b2) n)))
       go (suc (suc (suc (suc m)))) e e′ = absurd (omega arith)
 
--- what passes the test is below
+-- what passes the test is below, and what is below passes it
 pub all-below : (n : ℕ) (l : List ℕ) → all (λ a. ltb a n) l ≡ true → Each (λ a. a < n) l
 all-below n [] e = tt
 all-below n (x ∷ l) e =
     let h = and-both (ltb x n) (all (λ a. ltb a n) l) e in
     (ltb-true x n (h .0), all-below n l (h .1))
+
+pub below-all : (n : ℕ) (l : List ℕ) → Each (λ a. a < n) l → all (λ a. ltb a n) l ≡ true
+below-all n [] e = refl
+below-all n (x ∷ l) e = rw (lt-ltb x n (e .0)) (below-all n l (e .1))
 
 pub each-weaken : (n m : ℕ) (l : List ℕ) → n ≤ m → Each (λ a. a < n) l → Each (λ a. a < m) l
 each-weaken n m [] h e = tt

@@ -1,4 +1,5 @@
 pub mod Layout
+pub mod Encode
 pub mod Packed
 pub mod Views
 pub mod Step

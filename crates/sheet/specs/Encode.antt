@@ -1,0 +1,32 @@
+-- The other way round: the bytes that a sheet is written as (document 01, "The sheet"). A well-formed sheet has these bytes and no others.
+use Prim.Native.Nat.{ℕ}
+use mathlib.Core.List.{List, [], _∷_, _++_, flatMap}
+use lib.ListN.{length}
+use Rattle.logic.specs.Sheet.{Sheet, Bound, Symbol, Term, Literal}
+use Rattle.sheet.specs.Layout.{if}
+
+-- a record: length and kind, of two bytes each, then the payload
+abbrev pub packet : ℕ → List ℕ → List ℕ
+packet kind payload = (length payload ∷ 0 ∷ kind ∷ 0 ∷ []) ++ payload
+
+-- the record of a sort, a symbol, a term, a literal
+abbrev pub boundBytes : Bound → List ℕ
+boundBytes b = packet 1 (b .floor ∷ b .ceiling ∷ [])
+
+abbrev pub symbolBytes : Symbol → List ℕ
+symbolBytes f = packet 2 (f .result ∷ f .params)
+
+abbrev pub termBytes : Term → List ℕ
+termBytes t = packet 3 (t .symbol ∷ t .args)
+
+abbrev pub literalBytes : Literal → List ℕ
+literalBytes l = packet (if (l .equal) 4 5) (l .left ∷ l .right ∷ [])
+
+-- the records in the layout's order, the total last
+unfoldable pub encode : Sheet → List ℕ
+encode sh =
+    flatMap boundBytes (sh .bounds)
+    ++ flatMap symbolBytes (sh .symbols)
+    ++ flatMap termBytes (sh .terms)
+    ++ flatMap literalBytes (sh .literals)
+    ++ packet 6 (sh .total ∷ [])
