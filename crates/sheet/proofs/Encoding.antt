@@ -15,7 +15,7 @@ use Rattle.sheet.specs.Layout.{Kind, kindOf, field, name, expression, sa
 use Rattle.sheet.specs.Encode.{packet, boundBytes, symbolBytes, termBytes, literalBytes, encode}
 use Rattle.sheet.specs.Parts.{later, faultAt}
 use Rattle.sheet.proofs.Bools.{and-both}
-use Rattle.sheet.proofs.Lengths.{few-arguments, encode-length, encode-longest}
+use Rattle.sheet.proofs.Longest.{few-arguments, encode-length, encode-longest}
 use Rattle.sheet.proofs.Steps.{not-cut}
 use Rattle.sheet.proofs.Causes.{placed-later, field-fine, name-fine, term-fine, literal-fine, total-fine}
 use Rattle.sheet.proofs.Pairs.{below-all, map-below}

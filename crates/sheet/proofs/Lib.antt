@@ -8,8 +8,8 @@ pub mod Terms
 pub mod ByKind
 pub mod Growing
 pub mod Records
-pub mod Lengths
-pub mod Encoding
 pub mod Longest
+pub mod Encoding
+pub mod Written
 pub mod Answers
 pub mod Verdicts

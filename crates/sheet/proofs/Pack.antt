@@ -88,9 +88,9 @@ moreSymbol p r a b =
       total = p .total;
     }
 
-none : {A : Type 0} (l : List A) → length l ≡ 0 → l ≡ []
-none [] e = refl
-none (x ∷ l) e = absurd (omega arith)
+pub no-entries : {A : Type 0} (l : List A) → length l ≡ 0 → l ≡ []
+no-entries [] e = refl
+no-entries (x ∷ l) e = absurd (omega arith)
 
 -- the sorts of the terms stay, since there is no term yet
 pub symbol-packed : (sh : Sheet) (f : Symbol) → length (sh .symbols) < 64 → length (sh .terms) ≡ 0
@@ -102,8 +102,8 @@ symbol-packed sh f h e =
       pad-more 64 (λ (f : Symbol). f .result) (sh .symbols) f h,
       pad-more 64 (λ (f : Symbol). first (f .params)) (sh .symbols) f h,
       pad-more 64 (λ (f : Symbol). second (f .params)) (sh .symbols) f h,
-      ap (λ (l : List Term). pad 128 (map (λ (t : Term). symbolAt sh (t .symbol) .result) l)) (none (sh .terms) e),
-      ap (λ (l : List Term). pad 128 (map (λ (t : Term). symbolAt (addSymbol sh f) (t .symbol) .result) l)) (none (sh .terms) e),
+      ap (λ (l : List Term). pad 128 (map (λ (t : Term). symbolAt sh (t .symbol) .result) l)) (no-entries (sh .terms) e),
+      ap (λ (l : List Term). pad 128 (map (λ (t : Term). symbolAt (addSymbol sh f) (t .symbol) .result) l)) (no-entries (sh .terms) e),
     )
 
 abbrev pub moreTerm : Parsed → ℕ → ℕ → ℕ → ℕ → Parsed
