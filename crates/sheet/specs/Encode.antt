@@ -1,4 +1,5 @@
--- The other way round: the bytes that a sheet is written as (document 01, "The sheet"). A well-formed sheet has these bytes and no others.
+-- The layout the other way round: the bytes that a sheet is written as (document 01, "The sheet"). A well-formed sheet has these bytes and
+-- no others (`accepted-exactly`, proofs/Answers.antt).
 use Prim.Native.Nat.{ℕ}
 use mathlib.Core.List.{List, [], _∷_, _++_, flatMap}
 use lib.ListN.{length}
@@ -22,7 +23,7 @@ termBytes t = packet 3 (t .symbol ∷ t .args)
 abbrev pub literalBytes : Literal → List ℕ
 literalBytes l = packet (if (l .equal) 4 5) (l .left ∷ l .right ∷ [])
 
--- the records in the layout's order, the total last
+-- the records in the layout's order, those of one list after the other, the total last
 unfoldable pub encode : Sheet → List ℕ
 encode sh =
     flatMap boundBytes (sh .bounds)
