@@ -5,6 +5,7 @@ use mathlib.Core.Path.{_≡_}
 use mathlib.Core.Logic.{_⊎_}
 use mathlib.Core.List.{List, [], _∷_, _++_}
 use lib.ListN.{length}
+use Rattle.sheet.specs.Encode.{packet}
 use Rattle.finder.specs.Find.{finding, codesAfter, tablesAfter, fronted}
 use Rattle.finder.specs.declared.Finding.{Finding}
 use Rattle.finder.specs.declared.Finding.the-variants.{Found, Refused}
@@ -16,10 +17,6 @@ pub record Row : Type 0 where
   pub result : Finding
   pub codes : List ℕ
   pub tables : List ℕ
-
--- a record: length and kind, of two bytes each, then the payload
-abbrev pub packet : ℕ → List ℕ → List ℕ
-packet kind payload = (length payload ∷ 0 ∷ kind ∷ 0 ∷ []) ++ payload
 
 abbrev pub field : ℕ → ℕ → List ℕ
 field floor ceiling = packet 1 (floor ∷ ceiling ∷ [])
