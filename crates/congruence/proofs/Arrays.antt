@@ -45,7 +45,7 @@ module _ (f : ℕ → ℕ) (old : List ℕ) (k : ℕ) (new : List ℕ) (so : Wri
         rest = λ m big. so .rest m (omega arith);
       }
 
-pub at-map : (f : ℕ → ℕ) (l : List ℕ) (i : ℕ) → i < length l → at (map f l) i ≡ f (at l i)
+at-map : (f : ℕ → ℕ) (l : List ℕ) (i : ℕ) → i < length l → at (map f l) i ≡ f (at l i)
 at-map f [] i b = absurd (omega arith)
 at-map f (x ∷ l) zero b = refl
 at-map f (x ∷ l) (suc i) b = at-map f l i (omega arith)

@@ -2,16 +2,16 @@
 use Prim.Native.Nat.{ℕ, _≤_, _<_, min, max}
 use native.Mathlib.Omega.{arith}
 use native.Mathlib.Decide.{decLe, ℕ-discrete}
-use mathlib.Core.Path.{_≡_, ap, sym, _∙_}
+use mathlib.Core.Path.{_≡_, ap, sym, _∙_, subst}
 use mathlib.Core.Logic.{_⊎_, inl, inr}
 use mathlib.Core.List.{List, map}
-use lib.ListN.{length}
+use lib.ListN.{getD, List·getD-map}
 use borrow.Author.Tests.{eq-eqb, ne-eqb}
 use Rattle.logic.specs.Problem.{Problem}
 use Rattle.logic.specs.Structure.{at}
+use Rattle.congruence.specs.Closure.{relabel}
 use Rattle.congruence.specs.Groups.{Models, Keeps, Lowest}
-use Rattle.congruence.specs.Steps.{relabel, Joined, Step}
-use Rattle.congruence.proofs.Arrays.{at-map}
+use Rattle.congruence.specs.Steps.{Joined, Step}
 
 pub relabel-hit : (lo hi x : ℕ) → x ≡ hi → relabel lo hi x ≡ lo
 relabel-hit lo hi x h = rw (eq-eqb x hi h)
@@ -19,9 +19,19 @@ relabel-hit lo hi x h = rw (eq-eqb x hi h)
 pub relabel-miss : (lo hi x : ℕ) → (x ≡ hi → ⊥) → relabel lo hi x ≡ x
 relabel-miss lo hi x h = rw (ne-eqb x hi h)
 
--- labels relabelled from the higher of two to the lower
-pub joined-map : (l r : List ℕ) (i j lo hi : ℕ) → length l ≡ 128 → min (at l i) (at l j) ≡ lo → max (at l i) (at l j) ≡ hi → r ≡ map (relabel lo hi) l → Joined (at l) i j (at r)
-joined-map l r i j lo hi long low high e k b = rw (low, high, e) (at-map (relabel lo hi) l k (omega arith))
+relabel-zero : (lo hi : ℕ) → lo ≤ hi → relabel lo hi 0 ≡ 0
+relabel-zero lo hi h =
+    elim (ℕ-discrete 0 hi) [
+      | yes e ↦ relabel-hit lo hi 0 e ∙ omega arith
+      | no n ↦ relabel-miss lo hi 0 n
+    ]
+
+-- labels relabelled from the higher of two to the lower; past the end of the list there is 0 before and after
+pub joined-map : (l r : List ℕ) (i j lo hi : ℕ) → min (at l i) (at l j) ≡ lo → max (at l i) (at l j) ≡ hi → r ≡ map (relabel lo hi) l → Joined (at l) i j (at r)
+joined-map l r i j lo hi low high e k b =
+    rw (low, high, e)
+    (subst (λ (d : ℕ). getD (map (relabel lo hi) l) k d ≡ relabel lo hi (at l k)) (relabel-zero lo hi (omega arith))
+    (List·getD-map (relabel lo hi) l k 0))
 
 pub joined-none : (l : List ℕ) (i j : ℕ) → at l i ≡ at l j → Joined (at l) i j (at l)
 joined-none l i j e k b =

@@ -2,3 +2,4 @@ pub mod Arrays
 pub mod Labels
 pub mod Sweeps
 pub mod Structures
+pub mod Closing

@@ -20,7 +20,7 @@ use Rattle.congruence.specs.Groups.{Models, Entails, Groups, Closable, a
 use Rattle.congruence.specs.Forced.{Forced}
 
 -- at most two arguments have equal codes one by one where the first two have
-args-equal : (c : ℕ → ℕ) (xs ys : List ℕ) → length xs ≡ length ys → length xs ≤ 2 → c (first xs) ≡ c (first ys) → c (second xs) ≡ c (second ys) → map c xs ≡ map c ys
+pub args-equal : (c : ℕ → ℕ) (xs ys : List ℕ) → length xs ≡ length ys → length xs ≤ 2 → c (first xs) ≡ c (first ys) → c (second xs) ≡ c (second ys) → map c xs ≡ map c ys
 args-equal c [] [] e n f g = refl
 args-equal c [] (y ∷ ys) e n f g = absurd (omega arith)
 args-equal c (x ∷ xs) [] e n f g = absurd (omega arith)
@@ -73,7 +73,7 @@ module _ (sh : Sheet) (w : WellFormed sh) (P : Problem) (v : Views sh P) where
         right = λ k b. omega (arith, v .right k (omega arith), w .right k (omega arith));
       }
 
-  same-arity : (i j : ℕ) → i < length (sh .terms) → j < length (sh .terms) → termAt sh i .symbol ≡ termAt sh j .symbol → (length (termAt sh i .args) ≡ length (termAt sh j .args)) × (length (termAt sh i .args) ≤ 2)
+  pub same-arity : (i j : ℕ) → i < length (sh .terms) → j < length (sh .terms) → termAt sh i .symbol ≡ termAt sh j .symbol → (length (termAt sh i .args) ≡ length (termAt sh j .args)) × (length (termAt sh i .args) ≤ 2)
   same-arity i j bi bj e =
       let ei = sym (length-map (termAt sh i .args) (sortAt sh)) ∙ ap length (w .argSorts i bi) in
       let ej = sym (length-map (termAt sh j .args) (sortAt sh)) ∙ ap length (w .argSorts j bj) in
@@ -101,6 +101,16 @@ module _ (sh : Sheet) (w : WellFormed sh) (P : Problem) (v : Views sh P) where
             ap (code M sh) (v .left k c) ∙ agree-true _ _ _ equal (sat k c equal) ∙ ap (code M sh) (sym (v .right k c));
       }
 
+  -- the congruence rule is sound: where codes keep to labels, terms of one symbol whose arguments have equal labels have equal codes
+  pub rule-sound : (l c : ℕ → ℕ) → Models P c → ((a : ℕ) → a < length (sh .terms) → c (l a) ≡ c a) → (i j : ℕ) → i < length (sh .terms) → j < length (sh .terms) → termAt sh i .symbol ≡ termAt sh j .symbol → map l (termAt sh i .args) ≡ map l (termAt sh j .args) → c i ≡ c j
+  rule-sound l c models kept i j bi bj f e =
+      let n = v .terms in
+      let xs = each-weaken i (length (sh .terms)) (termAt sh i .args) (omega arith) (w .args i bi) in
+      let ys = each-weaken j (length (sh .terms)) (termAt sh j .args) (omega arith) (w .args j bj) in
+      models .congruent i j (omega arith) (omega arith) (v .symbol i bi ∙ f ∙ sym (v .symbol j bj))
+      (ap c (v .arg0 i bi) ∙ first-equal (length (sh .terms)) l c kept (termAt sh i .args) (termAt sh j .args) xs ys e ∙ ap c (sym (v .arg0 j bj)))
+      (ap c (v .arg1 i bi) ∙ second-equal (length (sh .terms)) l c kept (termAt sh i .args) (termAt sh j .args) xs ys e ∙ ap c (sym (v .arg1 j bj)))
+
   pub entails-forced : (i j : ℕ) → Entails P alone i j → Forced sh i j
   entails-forced i j e M interprets sat = e (code M sh) (codes-model M sat) (λ k b. refl)
 
@@ -115,13 +125,7 @@ module _ (sh : Sheet) (w : WellFormed sh) (P : Problem) (v : Views sh P) where
     labels-closed : (i j : ℕ) → i < length (sh .terms) → j < length (sh .terms) → termAt sh i .symbol ≡ termAt sh j .symbol → map l (termAt sh i .args) ≡ map l (termAt sh j .args) → l i ≡ l j
     labels-closed i j bi bj f e =
         let n = v .terms in
-        let xs = each-weaken i (length (sh .terms)) (termAt sh i .args) (omega arith) (w .args i bi) in
-        let ys = each-weaken j (length (sh .terms)) (termAt sh j .args) (omega arith) (w .args j bj) in
-        g .complete i j (omega arith) (omega arith) (λ c models keeps.
-        let kept = keeps-labels c models in
-        models .congruent i j (omega arith) (omega arith) (v .symbol i bi ∙ f ∙ sym (v .symbol j bj))
-        (ap c (v .arg0 i bi) ∙ first-equal (length (sh .terms)) l c kept (termAt sh i .args) (termAt sh j .args) xs ys e ∙ ap c (sym (v .arg0 j bj)))
-        (ap c (v .arg1 i bi) ∙ second-equal (length (sh .terms)) l c kept (termAt sh i .args) (termAt sh j .args) xs ys e ∙ ap c (sym (v .arg1 j bj))))
+        g .complete i j (omega arith) (omega arith) (λ c models keeps. rule-sound l c models (keeps-labels c models) i j bi bj f e)
 
     -- a term below n with this symbol and these labels as arguments, or the proof that there is none
     abbrev Reached : ℕ → List ℕ → ℕ → Type 0

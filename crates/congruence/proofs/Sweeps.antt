@@ -208,17 +208,26 @@ sum-equal (suc n) l m lower e k b =
 pub sum-falls : (n : ℕ) (l m : ℕ → ℕ) → ((k : ℕ) → k < n → m k ≤ l k) → (x y : ℕ) → x ≡ sumTo n m → y ≡ sumTo n l → (x ≡ y → ⊥) → sumTo n m < sumTo n l
 sum-falls n l m lower x y ex ey differ = omega (arith, sum-lower n l m lower)
 
--- labels that agree below 128 state the same
-pub groups-agree : (P : Problem) (E E′ l : ℕ → ℕ) → P .terms ≤ 128 → ((k : ℕ) → k < 128 → E k ≡ E′ k) → Groups P E l → Groups P E′ l
-groups-agree P E E′ l n agree g =
-    let to : (c : ℕ → ℕ) → Keeps P E c → Keeps P E′ c = λ c keeps i b. ap c (sym (agree i (omega arith))) ∙ keeps i b in
-    let from : (c : ℕ → ℕ) → Keeps P E′ c → Keeps P E c = λ c keeps i b. ap c (agree i (omega arith)) ∙ keeps i b in
+-- labels that agree on the terms state the same
+pub groups-agree : (P : Problem) (E E′ l : ℕ → ℕ) → ((k : ℕ) → k < P .terms → E k ≡ E′ k) → Groups P E l → Groups P E′ l
+groups-agree P E E′ l agree g =
+    let to : (c : ℕ → ℕ) → Keeps P E c → Keeps P E′ c = λ c keeps i b. ap c (sym (agree i b)) ∙ keeps i b in
+    let from : (c : ℕ → ℕ) → Keeps P E′ c → Keeps P E c = λ c keeps i b. ap c (agree i b) ∙ keeps i b in
     record {
       sound = λ i j bi bj e c models keeps. g .sound i j bi bj e c models (from c keeps);
       complete = λ i j bi bj e. g .complete i j bi bj (λ c models keeps. e c models (to c keeps));
       lowest = g .lowest;
       least = λ i j bi bj e. g .least i j bi bj (λ c models keeps. e c models (to c keeps));
     }
+
+-- there is only one way to name the groups
+groups-lower : (P : Problem) (E l m : ℕ → ℕ) → P .terms ≤ 128 → Groups P E l → Groups P E m → (i : ℕ) → i < P .terms → m i ≤ l i
+groups-lower P E l m n g h i b =
+    let there : l i < P .terms = omega (arith, g .lowest .below i (omega arith)) in
+    h .least i (l i) b there (g .sound i (l i) b there (sym (g .lowest .self i (omega arith))))
+
+pub groups-unique : (P : Problem) (E l m : ℕ → ℕ) → P .terms ≤ 128 → Groups P E l → Groups P E m → (i : ℕ) → i < P .terms → l i ≡ m i
+groups-unique P E l m n g h i b = omega (arith, groups-lower P E l m n g h i b, groups-lower P E m l n h g i b)
 
 pub alone-lowest : (E : ℕ → ℕ) → ((k : ℕ) → k < 128 → E k ≡ alone k) → Lowest E
 alone-lowest E agree = record { below = λ k b. omega (arith, agree k b); self = λ k b. ap E (agree k b) }

@@ -1,3 +1,4 @@
+pub mod Closure
 pub mod Groups
 pub mod Forced
 pub mod Steps

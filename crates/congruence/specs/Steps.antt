@@ -1,15 +1,12 @@
 -- What the steps of the closure promise of labels.
 use Prim.Native.Nat.{ℕ, _≤_, _<_, min, max}
 use mathlib.Core.Path.{_≡_}
-use lib.Dec.{ltb, eqb}
+use lib.Dec.{ltb}
 use Rattle.logic.specs.Problem.{Problem}
 use Rattle.sheet.specs.Layout.{if}
+use Rattle.congruence.specs.Closure.{relabel}
 use Rattle.congruence.specs.Groups.{Models, Keeps, Lowest}
 use Rattle.congruence.specs.declared.Cell.{Cell}
-
--- hi becomes lo, every other label stays
-abbrev pub relabel : ℕ → ℕ → ℕ → ℕ
-relabel lo hi x = if (eqb x hi) lo x
 
 -- the groups of i and j are made one: all terms of the higher label take the lower
 abbrev pub Joined : (ℕ → ℕ) → ℕ → ℕ → (ℕ → ℕ) → Type 0

@@ -6,8 +6,9 @@ ghost use mathlib.Core.Bool.{true, false};
 ghost use mathlib.Core.List.{map};
 ghost use Rattle.logic.specs.Structure.{at, sumTo};
 ghost use Rattle.sheet.specs.Packed.{view};
+ghost use Rattle.congruence.specs.Closure.{relabel};
 ghost use Rattle.congruence.specs.Groups.{Groups, Closable, Lowest, alone};
-ghost use Rattle.congruence.specs.Steps.{relabel, Joined, named, cellAt, First, Closed, Step, Stated, Swept};
+ghost use Rattle.congruence.specs.Steps.{Joined, named, cellAt, First, Closed, Step, Stated, Swept};
 
 // A cell of a symbol's table, where labels are the codes.
 pub struct Cell {

@@ -1,7 +1,5 @@
 -- `congruence::joined` meets its contract: of two different labels the higher is relabelled, equal ones stay.
 use native.Mathlib.Omega.{arith}
-use mathlib.Core.Path.{_≡_}
-use lib.ListN.{length}
 use Rattle.congruence.proofs.Labels.{joined-map, joined-none}
 use borrow.Author.Needs.{needs}
 use Rattle.congruence.proofs.joined.Statement.{statement}
@@ -19,8 +17,7 @@ merged-requires c κs = search needs
 returns : tie.Need-returns
 returns c =
     let args = c .before .before .args in
-    let long : length (args .t1) ≡ 128 = omega arith in
-    joined-map (args .t1) _ (args .i) (args .j) _ _ long (omega arith) (omega arith) (c .merged .ensures)
+    joined-map (args .t1) _ (args .i) (args .j) _ _ (omega arith) (omega arith) (c .merged .ensures)
 
 merged-requires-2 : tie.Need-merged-requires-2
 merged-requires-2 c κs = search needs
@@ -28,8 +25,7 @@ merged-requires-2 c κs = search needs
 returns-2 : tie.Need-returns-2
 returns-2 c =
     let args = c .before .before .before .args in
-    let long : length (args .t1) ≡ 128 = omega arith in
-    joined-map (args .t1) _ (args .i) (args .j) _ _ long (omega arith) (omega arith) (c .merged2 .ensures)
+    joined-map (args .t1) _ (args .i) (args .j) _ _ (omega arith) (omega arith) (c .merged2 .ensures)
 
 returns-3 : tie.Need-returns-3
 returns-3 c =

@@ -4,7 +4,7 @@ use mathlib.Core.Logic.{inl, inr}
 use lib.ListN.{length}
 use Prim.Native.Nat.{ℕ, _≤_, _-_}
 use Rattle.logic.specs.Structure.{at}
-use Rattle.congruence.specs.Steps.{relabel}
+use Rattle.congruence.specs.Closure.{relabel}
 use Rattle.congruence.proofs.Labels.{relabel-hit, relabel-miss}
 use Rattle.congruence.proofs.Arrays.{Written, written-none, written-more, written-kept, written-map}
 use borrow.Author.Needs.{needs}
