@@ -10,10 +10,11 @@ use Rattle.logic.specs.Sheet.{Sheet, Symbol, Term, Literal, literalAt}
 use Rattle.logic.specs.Structure.{Structure, InSorts, Interprets, SatisfiesSame, codesFrom, codes, Holds, at}
 use Rattle.logic.proofs.Codes.{holds-same}
 use Rattle.sheet.specs.Layout.{if, accepted, reading}
+use Rattle.congruence.specs.Closure.{together}
 use Rattle.congruence.specs.Forced.{Forced}
-use Rattle.forced.specs.declared.Forcing.{Forcing}
-use Rattle.forced.specs.declared.Forcing.the-variants.{Yes, No, Refused}
-use Rattle.forced.specs.Answer.{comparable, answer, Answered}
+use Rattle.forced.specs.declared.Forcing.the-variants.{Yes, No}
+use Rattle.forced.specs.Answer.{comparable, answer}
+use Rattle.forced.proofs.Replies.{turned-down, decided, forced-exactly}
 
 -- each same statement of one sheet is one of the other
 abbrev pub SameIn : Sheet → Sheet → Type 0
@@ -55,22 +56,16 @@ module _ (sh other : Sheet) (sorts : length (sh .bounds) ≡ length (other .boun
   comparable-alike : (a b : ℕ) → comparable sh a b ≡ comparable other a b
   comparable-alike a b = ap₂ (λ ts fs. test ts fs a b) terms symbols
 
-  pub answered-alike : (s t : List ℕ) (a b : ℕ) (q r : Forcing) → reading s ≡ accepted sh → reading t ≡ accepted other → Answered s a b q → Answered t a b r → q ≡ r
-  answered-alike s t a b q r e d x y = go (comparable sh a b) refl
+  pub answered-alike : (s t : List ℕ) (a b : ℕ) → reading s ≡ accepted sh → reading t ≡ accepted other → answer s a b ≡ answer t a b
+  answered-alike s t a b e d = go (comparable sh a b) refl
     where
-      go : (c : Bool) → comparable sh a b ≡ c → q ≡ r
+      go : (c : Bool) → comparable sh a b ≡ c → answer s a b ≡ answer t a b
       go true h =
           let h′ = sym (comparable-alike a b) ∙ h in
           let to = forced-kept sh other sorts symbols terms there a b in
           let from = forced-kept other sh (sym sorts) (sym symbols) (sym terms) back a b in
-          let u = x .exactly sh e h in
-          let v = y .exactly other d h′ in
-          let told = told-alike (x .isForced) (y .isForced) (λ z. v .1 (to (u .0 z))) (λ z. u .1 (from (v .0 z))) in
-          let left : answer (reading s) a b (x .isForced) ≡ if (x .isForced) Yes No = rw (e, h) in
-          let right : answer (reading t) a b (y .isForced) ≡ if (y .isForced) Yes No = rw (d, h′) in
-          x .reply ∙ left ∙ ap (λ z. if z Yes No) told ∙ sym right ∙ sym (y .reply)
-      go false h =
-          let h′ = sym (comparable-alike a b) ∙ h in
-          let left : answer (reading s) a b (x .isForced) ≡ Refused 13 0 = rw (e, h) in
-          let right : answer (reading t) a b (y .isForced) ≡ Refused 13 0 = rw (d, h′) in
-          x .reply ∙ left ∙ sym right ∙ sym (y .reply)
+          let u = forced-exactly s a b sh e h in
+          let v = forced-exactly t a b other d h′ in
+          let told = told-alike (together sh a b) (together other a b) (λ z. v .1 (to (u .0 z))) (λ z. u .1 (from (v .0 z))) in
+          decided s sh e a b h ∙ ap (λ z. if z Yes No) told ∙ sym (decided t other d a b h′)
+      go false h = turned-down s sh e a b h ∙ sym (turned-down t other d a b (sym (comparable-alike a b) ∙ h))

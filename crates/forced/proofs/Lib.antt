@@ -1,3 +1,4 @@
 pub mod Replies
 pub mod Alike
 pub mod Fixed
+pub mod Worked

@@ -1,14 +1,12 @@
 -- The answer to the question "forced" for every call (document 01, "The five questions" and "Why a call is turned down").
 use Prim.Native.Nat.{ℕ}
-use mathlib.Core.Path.{_≡_}
-use mathlib.Core.Logic.{_↔_}
-use mathlib.Core.Bool.{Bool, true, _&&_}
+use mathlib.Core.Bool.{Bool, _&&_}
 use mathlib.Core.List.{List}
 use lib.ListN.{length}
 use lib.Dec.{ltb, eqb}
 use Rattle.logic.specs.Sheet.{Sheet, sortAt}
 use Rattle.sheet.specs.Layout.{Reading, accepted, refused, if, reading}
-use Rattle.congruence.specs.Forced.{Forced}
+use Rattle.congruence.specs.Closure.{together}
 use Rattle.forced.specs.declared.Forcing.{Forcing}
 use Rattle.forced.specs.declared.Forcing.the-variants.{Yes, No, Refused}
 
@@ -16,14 +14,12 @@ use Rattle.forced.specs.declared.Forcing.the-variants.{Yes, No, Refused}
 abbrev pub comparable : Sheet → ℕ → ℕ → Bool
 comparable sh a b = ltb a (length (sh .terms)) && (ltb b (length (sh .terms)) && eqb (sortAt sh a) (sortAt sh b))
 
--- the answer, given whether the two expressions are forced together
-abbrev pub answer : Reading → ℕ → ℕ → Bool → Forcing
-answer (refused n i) a b isForced = Refused n i
-answer (accepted sh) a b isForced = if (comparable sh a b) (if isForced Yes No) (Refused 13 0)
+-- the answer, by what reading the sheet gives: a refused sheet's number and place; else 13 where the two are not comparable, and yes or no
+-- by the groups that the same statements make
+abbrev pub forcing : Reading → ℕ → ℕ → Forcing
+forcing (refused n i) a b = Refused n i
+forcing (accepted sh) a b = if (comparable sh a b) (if (together sh a b) Yes No) (Refused 13 0)
 
--- what the question answers of a sheet's bytes and two numbers: the answer that the definition gives, yes exactly when every structure
--- that satisfies the same statements gives the two expressions one code
-pub record Answered (s : List ℕ) (a b : ℕ) (r : Forcing) : Type 0 where
-  pub isForced : Bool
-  pub reply : r ≡ answer (reading s) a b isForced
-  pub exactly : (sh : Sheet) → reading s ≡ accepted sh → comparable sh a b ≡ true → (isForced ≡ true) ↔ Forced sh a b
+-- the answer to a sheet's bytes and two numbers
+unfoldable pub answer : List ℕ → ℕ → ℕ → Forcing
+answer s a b = forcing (reading s) a b

@@ -1,7 +1,8 @@
 // The question "forced": have two expressions one code wherever the same statements of a sheet hold?
 use congruence::groups;
 use sheet::parse;
-ghost use Rattle.forced.specs.Answer.{Answered};
+ghost use mathlib.Core.Path.{_≡_};
+ghost use Rattle.forced.specs.Answer.{answer};
 
 // The answer; a refusal has document 01's number and place.
 pub enum Forcing {
@@ -12,7 +13,7 @@ pub enum Forcing {
 
 // Whether the expressions a and b of a sheet are forced together.
 pub fn forced(sheet: &[u8], a: usize, b: usize) -> Forcing
-    ensures { λ r. ⌜ Answered (now (sheet .entry)) a b r ⌝ }
+    ensures { λ r. ⌜ r ≡ answer (now (sheet .entry)) a b ⌝ }
 {
     let read = parse(sheet);
     if read.number != 0 {

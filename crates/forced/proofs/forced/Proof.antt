@@ -2,7 +2,7 @@
 use borrow.Author.Needs.{needs}
 use native.Mathlib.Omega.{arith}
 use Rattle.logic.specs.Structure.{at}
-use Rattle.forced.proofs.Replies.{refused-reply, parsed-closable, parsed-absent-first, parsed-absent-second, parsed-other-fields, parsed-together, parsed-apart}
+use Rattle.forced.proofs.Replies.{refused-reply, parsed-closable, parsed-absent-first, parsed-absent-second, parsed-other-fields, parsed-one-group, parsed-two-groups}
 use Rattle.forced.proofs.forced.Statement.{statement}
 use Rattle.forced.proofs.forced.Tie as tie
 
@@ -37,10 +37,10 @@ array-read-if5-2 : tie.Need-array-read-if5-2
 array-read-if5-2 c = omega (arith, parsed-closable _ _ (c .before .before .before .before .before .before .before .before .before .parse .ensures) (c .before .before .before .before .before .before .before .if1 .left) .terms)
 
 returns-5 : tie.Need-returns-5
-returns-5 c = parsed-together _ _ (c .before .before .before .before .before .before .before .before .before .before .parse .ensures) (c .before .before .before .before .before .before .before .before .if1 .left) _ _ (omega arith) (omega arith) (c .before .before .if4 .left) (at (c .before .groups .result)) (c .before .groups .ensures) (c .if5 .taken)
+returns-5 c = parsed-one-group _ _ (c .before .before .before .before .before .before .before .before .before .before .parse .ensures) (c .before .before .before .before .before .before .before .before .if1 .left) _ _ (omega arith) (omega arith) (c .before .before .if4 .left) (at (c .before .groups .result)) (c .before .groups .ensures) (c .if5 .taken)
 
 returns-6 : tie.Need-returns-6
-returns-6 c = parsed-apart _ _ (c .before .before .before .before .before .before .before .before .before .before .parse .ensures) (c .before .before .before .before .before .before .before .before .if1 .left) _ _ (omega arith) (omega arith) (c .before .before .if4 .left) (at (c .before .groups .result)) (c .before .groups .ensures) (c .if5 .left)
+returns-6 c = parsed-two-groups _ _ (c .before .before .before .before .before .before .before .before .before .before .parse .ensures) (c .before .before .before .before .before .before .before .before .if1 .left) _ _ (omega arith) (omega arith) (c .before .before .if4 .left) (at (c .before .groups .result)) (c .before .groups .ensures) (c .if5 .left)
 
 pub forced-spec : {M : Type 1} → statement M
 forced-spec =
