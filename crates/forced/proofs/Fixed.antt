@@ -12,7 +12,7 @@ use Rattle.forced.specs.declared.Forcing.{Forcing}
 use Rattle.forced.specs.declared.Forcing.the-variants.{Yes, No}
 use Rattle.forced.specs.Answer.{comparable, answer}
 
--- fields, names, expressions, total
+-- a record to a line: a field, two names, their expressions, the total
 unfoldable pub two-bytes : List ℕ
 two-bytes =
     2 ∷ 0 ∷ 1 ∷ 0 ∷ 1 ∷ 1
