@@ -6,17 +6,20 @@ use mathlib.Core.Logic.{_↔_}
 use mathlib.Core.Path.{_≡_, refl, ap, sym, _∙_, subst}
 use mathlib.Core.Bool.{Bool, true, false, _||_}
 use mathlib.Core.List.{List}
-use lib.ListN.{length, take}
+use lib.ListN.{length, take, drop}
 use lib.Seq.{take-all}
 use lib.Dec.{leb, ltb, eqb}
 use borrow.Author.Tests.{leb-true, leb-false, eqb-true, eqb-false}
 use Rattle.logic.specs.Sheet.{Sheet}
 use Rattle.logic.specs.WellFormed.{WellFormed}
 use Rattle.sheet.specs.Layout
-use Rattle.sheet.specs.Layout.{kindOf, if, cut, cause, kindAt, lengthAt, payloadAt, accepted, refused, ended, readFrom, reading, empty, misplaced, wrongLength, tooMany, outOfRange, illSorted, repeated}
+use Rattle.sheet.specs.Layout.{kindOf, if, cause, kindAt, lengthAt, payloadAt, accepted, refused, ended, readFrom, reading, empty, misplaced, wrongLength, tooMany, outOfRange, illSorted, repeated}
 use Rattle.sheet.specs.Encode.{encode}
 use Rattle.sheet.specs.SoFar.{SoFar}
-use Rattle.sheet.specs.Parts.{faultAt}
+use Rattle.sheet.specs.Step.{stepAt}
+use Rattle.sheet.specs.Parts.{faultOf, faultAt}
+use Rattle.sheet.specs.declared.Step.{Step}
+use Rattle.sheet.specs.declared.Step.the-variants.{Record, Cut, End}
 use Rattle.sheet.proofs.Causes.{reached-5}
 use Rattle.sheet.proofs.Growing.{grown, empty-sofar, fine}
 use Rattle.sheet.proofs.Longest.{encode-longest}
@@ -39,11 +42,12 @@ cause-most sh k p = go (misplaced sh (kindOf k)) (wrongLength k (length p)) (too
     go false false false false false false = omega arith
 
 fault-most : (s : List ℕ) (i : ℕ) (sh : Sheet) → faultAt s i sh ≤ 8
-fault-most s i sh = go (cut s i)
+fault-most s i sh = go (stepAt s i)
   where
-    go : (b : Bool) → if b 2 (cause sh (kindAt s i) (payloadAt s i)) ≤ 8
-    go true = omega arith
-    go false = cause-most sh (kindAt s i) (payloadAt s i)
+    go : (x : Step) → faultOf s sh x ≤ 8
+    go (Record kind start len) = cause-most sh kind (take len (drop start s))
+    go Cut = omega arith
+    go End = omega arith
 
 -- a number of the table and a place in the sheet
 pub record Listed (s : List ℕ) (n i : ℕ) : Type 0 where
@@ -132,7 +136,7 @@ from-whole (suc n) s i sh sh′ enough b so e =
     go false true ex ey next =
         let h = leb-false (length s) i ex in
         let good = eqb-true (faultAt s i sh) 0 ey in
-        let none = fault-none s i sh good in
+        let none = fault-none s i sh h good in
         next (i + 4 + lengthAt s i) (Layout.add sh (kindOf (kindAt s i)) (payloadAt s i)) (omega arith)
         (written-next s i sh (uncut s i (none .0)) (fine sh (kindAt s i) (payloadAt s i) (none .1)) b)
         (grown sh so (kindAt s i) (payloadAt s i) (none .1))

@@ -20,7 +20,7 @@ use Rattle.sheet.proofs.Steps.{not-cut}
 use Rattle.sheet.proofs.Causes.{placed-later, field-fine, name-fine, term-fine, literal-fine, total-fine}
 use Rattle.sheet.proofs.Pairs.{below-all, map-below}
 use Rattle.sheet.proofs.Growing.{sameList-same, same-sameList}
-use Rattle.sheet.proofs.Records.{cause-later, from-end, from-good}
+use Rattle.sheet.proofs.Records.{cause-later, fault-whole, from-end, from-good}
 
 -- ---- one record among the bytes
 -- what reading from a position gives, however many records more are allowed for
@@ -59,7 +59,7 @@ module _ (pre : List ℕ) (k : ℕ) (p rest : List ℕ) where
         let s : List ℕ = pre ++ (packet k p ++ rest) in
         let a = length-at in
         let b = whole-length in
-        ap (λ (b : Bool). if b 2 (cause sh (kindAt s (length pre)) (payloadAt s (length pre)))) (not-cut s (length pre) (omega arith))
+        fault-whole s (length pre) sh (omega arith) (not-cut s (length pre) (omega arith))
         ∙ ap (λ (x : ℕ). cause sh x (payloadAt s (length pre))) kind-at
         ∙ ap (cause sh k) payload-at
         ∙ none

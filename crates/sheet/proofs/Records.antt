@@ -11,9 +11,9 @@ use Rattle.logic.specs.Sheet.{Sheet}
 use Rattle.sheet.specs.Layout
 use Rattle.sheet.specs.Layout.{kindOf, if, misplaced, wrongLength, cause, cut, kindAt, lengthAt, payloadAt, accepted, refused, ended, readFrom, reading, empty}
 use Rattle.sheet.specs.Packed.{packed, parsing}
-use Rattle.sheet.specs.Step.{stepAt, bytesOf, Short}
+use Rattle.sheet.specs.Step.{stepAt, behind, stepCause, bytesOf, Short}
 use Rattle.sheet.specs.SoFar.{Known}
-use Rattle.sheet.specs.Parts.{later, faultAt, Took}
+use Rattle.sheet.specs.Parts.{later, faultOf, faultAt, Took}
 use Rattle.sheet.specs.declared.Parsed.{Parsed}
 use Rattle.sheet.specs.declared.Payload.{Payload}
 use Rattle.sheet.specs.declared.Taken.{Taken}
@@ -106,28 +106,33 @@ step-whole s i a b d e = go (leb (length s) i) (cut s i) refl refl e
 pub step-uncut : (s : List ℕ) (i : ℕ) → i < length s → cut s i ≡ false → stepAt s i ≡ Record (kindAt s i) (i + 4) (lengthAt s i)
 step-uncut s i h e = rw (lt-leb (length s) i h, e)
 
-pub fault-cut : (s : List ℕ) (i : ℕ) (sh : Sheet) → cut s i ≡ true → 2 ≡ faultAt s i sh
-fault-cut s i sh e = rw e
+pub behind-whole : (s : List ℕ) (i : ℕ) → i < length s → cut s i ≡ false → behind i (stepAt s i) ≡ i + 4 + lengthAt s i
+behind-whole s i h e = ap (behind i) (step-uncut s i h e)
 
-pub took-at : (s : List ℕ) (i : ℕ) (sh : Sheet) (r : Taken) (a b d : ℕ) → Whole s i a b d
-    → Took (cause sh a (take d (drop b s))) (b + d) a (take d (drop b s)) sh r
-    → Took (faultAt s i sh) (i + 4 + lengthAt s i) (kindAt s i) (payloadAt s i) sh r
-took-at s i sh r a b d w t =
-    let u : Took (cause sh (kindAt s i) (payloadAt s i)) (i + 4 + lengthAt s i) (kindAt s i) (payloadAt s i) sh r =
-    subst (λ (x : ℕ). Took (cause sh x (payloadAt s i)) (i + 4 + lengthAt s i) x (payloadAt s i) sh r) (w .kind)
-    (subst (λ (x : ℕ). Took (cause sh a (take (lengthAt s i) (drop x s))) (x + lengthAt s i) a (take (lengthAt s i) (drop x s)) sh r) (w .start)
-    (subst (λ (x : ℕ). Took (cause sh a (take x (drop b s))) (b + x) a (take x (drop b s)) sh r) (w .len) t)) in
-    record { number = u .number ∙ not-cut; next = u .next; sheet = u .sheet }
-  where
-    not-cut : cause sh (kindAt s i) (payloadAt s i) ≡ faultAt s i sh
-    not-cut = sym (ap (λ (x : Bool). if x 2 (cause sh (kindAt s i) (payloadAt s i))) (w .whole))
+-- the fault at a position before the end: the record there is cut short or whole
+module _ (s : List ℕ) (i : ℕ) (sh : Sheet) (h : i < length s) where
+  pub fault-cut : cut s i ≡ true → stepCause Cut ≡ faultAt s i sh
+  fault-cut e = rw (lt-leb (length s) i h, e)
 
-pub fault-none : (s : List ℕ) (i : ℕ) (sh : Sheet) → faultAt s i sh ≡ 0 → (cut s i ≡ false) × (cause sh (kindAt s i) (payloadAt s i) ≡ 0)
-fault-none s i sh e = go (cut s i) refl e
-  where
-    go : (b : Bool) → cut s i ≡ b → if b 2 (cause sh (kindAt s i) (payloadAt s i)) ≡ 0 → (cut s i ≡ false) × (cause sh (kindAt s i) (payloadAt s i) ≡ 0)
-    go true eb z = absurd (omega arith)
-    go false eb z = (eb, z)
+  pub fault-whole : cut s i ≡ false → faultAt s i sh ≡ cause sh (kindAt s i) (payloadAt s i)
+  fault-whole e = ap (faultOf s sh) (step-uncut s i h e)
+
+  pub fault-none : faultAt s i sh ≡ 0 → (cut s i ≡ false) × (cause sh (kindAt s i) (payloadAt s i) ≡ 0)
+  fault-none e = go (cut s i) refl
+    where
+      go : (b : Bool) → cut s i ≡ b → (cut s i ≡ false) × (cause sh (kindAt s i) (payloadAt s i) ≡ 0)
+      go true eb = let z = fault-cut eb in absurd (omega arith)
+      go false eb = (eb, sym (fault-whole eb) ∙ e)
+
+pub took-at : (s : List ℕ) (i : ℕ) (sh : Sheet) (r : Taken) (a b d n : ℕ) → i < length s → Whole s i a b d → n ≡ behind i (stepAt s i)
+    → Took (cause sh a (take d (drop b s))) n a (take d (drop b s)) sh r
+    → Took (faultAt s i sh) (behind i (stepAt s i)) (kindAt s i) (payloadAt s i) sh r
+took-at s i sh r a b d n h w e t =
+    let u : Took (cause sh (kindAt s i) (payloadAt s i)) n (kindAt s i) (payloadAt s i) sh r =
+    subst (λ (x : ℕ). Took (cause sh x (payloadAt s i)) n x (payloadAt s i) sh r) (w .kind)
+    (subst (λ (x : ℕ). Took (cause sh a (take (lengthAt s i) (drop x s))) n a (take (lengthAt s i) (drop x s)) sh r) (w .start)
+    (subst (λ (x : ℕ). Took (cause sh a (take x (drop b s))) n a (take x (drop b s)) sh r) (w .len) t)) in
+    record { number = u .number ∙ sym (fault-whole s i sh h (w .whole)); next = λ z. u .next z ∙ e; sheet = u .sheet }
 
 -- the records from a position on: none is left, one is faulty, one is good
 pub from-end : (n : ℕ) (s : List ℕ) (i : ℕ) (sh : Sheet) → length s ≤ i → readFrom n s i sh ≡ ended s sh
@@ -143,13 +148,13 @@ from-fault n s i sh h bad = go (cut s i) refl
     go true e = rw (lt-leb (length s) i h, e, readFrom)
     go false e =
         rw (lt-leb (length s) i h, e, readFrom)
-        (rw (ne-eqb (cause sh (kindAt s i) (payloadAt s i)) 0 (λ z. bad (rw (e) z)), readFrom))
+        (rw (ne-eqb (cause sh (kindAt s i) (payloadAt s i)) 0 (λ z. bad (fault-whole s i sh h e ∙ z)), readFrom))
 
 pub from-good : (n : ℕ) (s : List ℕ) (i : ℕ) (sh : Sheet) → i < length s → faultAt s i sh ≡ 0
     → readFrom (suc n) s i sh ≡ readFrom n s (i + 4 + lengthAt s i) (Layout.add sh (kindOf (kindAt s i)) (payloadAt s i))
 unfolding readFrom
 from-good n s i sh h good =
-    let z = fault-none s i sh good in
+    let z = fault-none s i sh h good in
     rw (lt-leb (length s) i h, z .0, readFrom) (rw (eq-eqb (cause sh (kindAt s i) (payloadAt s i)) 0 (z .1), readFrom))
 
 -- the parser at a position: the sheet so far is known, and what is left of the sheet decides
@@ -181,7 +186,7 @@ module _ (s : List ℕ) (i : ℕ) (p : Parsed) (g : Going s i p) where
   pub going-end : length s ≤ i → ended s (g .known .sheet) ≡ reading s
   going-end h = sym (from-end (g .most) s i (g .known .sheet) h) ∙ g .rest
 
-  module _ (h : i < length s) (r : Taken) (t : Took (faultAt s i (g .known .sheet)) (i + 4 + lengthAt s i) (kindAt s i) (payloadAt s i) (g .known .sheet) r) where
+  module _ (h : i < length s) (r : Taken) (t : Took (faultAt s i (g .known .sheet)) (behind i (stepAt s i)) (kindAt s i) (payloadAt s i) (g .known .sheet) r) where
     left : (m : ℕ) × (g .most ≡ suc m)
     left = go (g .most) refl
       where
@@ -196,6 +201,13 @@ module _ (s : List ℕ) (i : ℕ) (p : Parsed) (g : Going s i p) where
         ∙ ap (λ (n : ℕ). readFrom n s i (g .known .sheet)) (sym (left .1))
         ∙ g .rest
 
+    -- a good record is whole, and the parser goes on at its end
+    good : r .number ≡ 0 → (cut s i ≡ false) × (cause (g .known .sheet) (kindAt s i) (payloadAt s i) ≡ 0)
+    good e = fault-none s i (g .known .sheet) h (sym (t .number) ∙ e)
+
+    pub going-on : r .number ≡ 0 → r .next ≡ i + 4 + lengthAt s i
+    going-on e = t .next e ∙ behind-whole s i h (good e .0)
+
     pub going-next : r .number ≡ 0 → Going s (r .next) (r .sheet)
     going-next e =
         record {
@@ -203,19 +215,16 @@ module _ (s : List ℕ) (i : ℕ) (p : Parsed) (g : Going s i p) where
               record {
                 sheet = Layout.add (g .known .sheet) (kindOf (kindAt s i)) (payloadAt s i);
                 same = t .sheet e;
-                sofar = grown (g .known .sheet) (g .known .sofar) (kindAt s i) (payloadAt s i) (fault-none s i (g .known .sheet) good .1);
+                sofar = grown (g .known .sheet) (g .known .sofar) (kindAt s i) (payloadAt s i) (good e .1);
               };
           most = left .0;
-          enough = let z = g .enough in let y = t .next e in let x = left .1 in omega arith;
+          enough = let z = g .enough in let y = going-on e in let x = left .1 in omega arith;
           rest =
-              ap (λ (n : ℕ). readFrom (left .0) s n (Layout.add (g .known .sheet) (kindOf (kindAt s i)) (payloadAt s i))) (t .next e)
-              ∙ sym (from-good (left .0) s i (g .known .sheet) h good)
+              ap (λ (n : ℕ). readFrom (left .0) s n (Layout.add (g .known .sheet) (kindOf (kindAt s i)) (payloadAt s i))) (going-on e)
+              ∙ sym (from-good (left .0) s i (g .known .sheet) h (sym (t .number) ∙ e))
               ∙ ap (λ (n : ℕ). readFrom n s i (g .known .sheet)) (sym (left .1))
               ∙ g .rest;
         }
-      where
-        good : faultAt s i (g .known .sheet) ≡ 0
-        good = sym (t .number) ∙ e
 
 -- at the end
 module _ (s : List ℕ) (i : ℕ) (p : Parsed) (g : Going s i p) (h : length s ≤ i) where

@@ -9,7 +9,8 @@ use lib.Seq.{length-take-le, getD-take, getD-drop}
 use lib.Dec.{ltb}
 use borrow.Author.Tests.{lt-ltb, le-ltb, le-leb, lt-leb}
 use Rattle.sheet.specs.Layout.{cut, lengthAt, kindAt}
-use Rattle.sheet.specs.Step.{stepAt, bytesOf, Short}
+use Rattle.sheet.specs.Step.{stepAt, behind, stepped, bytesOf, Short}
+use Rattle.sheet.specs.declared.Step.{Step}
 use Rattle.sheet.specs.declared.Step.the-variants.{Record, Cut, End}
 
 pub cut-head : (s : List ℕ) (i : ℕ) → length s < i + 4 → cut s i ≡ true
@@ -31,6 +32,10 @@ step-cut s i h e = rw (lt-leb (length s) i h, e)
 
 pub step-record : (s : List ℕ) (i : ℕ) → i + 4 + lengthAt s i ≤ length s → Record (kindAt s i) (i + 4) (lengthAt s i) ≡ stepAt s i
 step-record s i h = rw (lt-leb (length s) i (omega arith), not-cut s i h)
+
+-- the position behind it follows from what stands there
+pub stepped-as : (s : List ℕ) (i : ℕ) (x : Step) → x ≡ stepAt s i → record { step = x; behind = behind i x } ≡ stepped s i
+stepped-as s i x e = ap (λ (y : Step). record { step = y; behind = behind i y }) e
 
 -- a byte of a payload, inside it and past it
 pub byte-inside : (s : List ℕ) (start n k : ℕ) → k < n → start + n ≤ length s → getD s (start + k) 0 ≡ getD (take n (drop start s)) k 255

@@ -5,9 +5,9 @@ mod grow;
 ghost use mathlib.Core.Path.{_≡_};
 ghost use Prim.Native.Nat.{_+_, _<_, _≤_};
 ghost use lib.ListN.{length, getD, take, drop};
-ghost use Rattle.sheet.specs.Layout.{reading, refused, empty, word, payloadAt, kindAt, lengthAt, cause};
+ghost use Rattle.sheet.specs.Layout.{reading, refused, empty, word, payloadAt, kindAt, cause};
 ghost use Rattle.sheet.specs.Packed.{packed, parsing, verdict};
-ghost use Rattle.sheet.specs.Step.{stepAt, bytesOf, Short};
+ghost use Rattle.sheet.specs.Step.{stepAt, behind, stepped, bytesOf, Short};
 ghost use Rattle.sheet.specs.SoFar.{Known};
 ghost use Rattle.sheet.specs.Parts.{Took, faultAt};
 
@@ -63,29 +63,44 @@ pub enum Step {
     End,
 }
 
+// What stands at a position, and the position behind it: the end of a whole record, else where it was.
+pub struct Stepped {
+    pub step: Step,
+    pub behind: usize,
+}
+
 // The most bytes of a sheet.
 const MOST_BYTES: usize = 4096;
 
-// The record at a position; there is none at the end of the sheet or past it.
-pub fn step_at(s: &[u8], at: usize) -> Step
-    ensures { λ r. ⌜ r ≡ stepAt (now (s .entry)) at ⌝ }
+// The record at a position, and the position behind it; at the end of the sheet and past it there is none.
+pub fn step_at(s: &[u8], at: usize) -> Stepped
+    ensures { λ r. ⌜ r ≡ stepped (now (s .entry)) at ⌝ }
 {
     let n = s.len();
     if n <= at {
-        return Step::End;
+        return Stepped {
+            step: Step::End,
+            behind: at,
+        };
     }
     if n - at < 4 {
-        return Step::Cut;
+        return Stepped {
+            step: Step::Cut,
+            behind: at,
+        };
     }
     let len = word(s, at);
     if n - at - 4 < len {
-        return Step::Cut;
+        return Stepped {
+            step: Step::Cut,
+            behind: at,
+        };
     }
     let kind = word(s, at + 2);
-    Step::Record {
-        kind,
-        start: at + 4,
-        len,
+    let start = at + 4;
+    Stepped {
+        step: Step::Record { kind, start, len },
+        behind: start + len,
     }
 }
 
@@ -95,6 +110,12 @@ pub struct Reader<'a> {
     pub at: usize,
 }
 
+// What a reader hands out: what stands at its position, and the reader behind it, over the same bytes.
+pub struct Handed<'a> {
+    pub step: Step,
+    pub rest: Reader<'a>,
+}
+
 // A reader of a sheet at a position.
 pub fn reader_at<'a>(sheet: &'a [u8], at: usize) -> Reader<'a>
     ensures { λ r. ⌜ (r .sheet ≡ sheet .entry) × (r .at ≡ at) ⌝ }
@@ -102,18 +123,29 @@ pub fn reader_at<'a>(sheet: &'a [u8], at: usize) -> Reader<'a>
     Reader { sheet, at }
 }
 
-// The record at the reader's position: the reader is taken apart, and the record step does the work.
-pub fn next<'a>(r: Reader<'a>) -> Step
-    ensures { λ s. ⌜ s ≡ stepAt (now (r .entry .sheet)) (r .entry .at) ⌝ }
+// The record at the reader's position and the reader behind it: the reader is taken apart, and the record step does the work.
+pub fn next<'a>(r: Reader<'a>) -> Handed<'a>
+    ensures { λ h. ⌜ (h .step ≡ stepAt (now (r .entry .sheet)) (r .entry .at)) × (h .rest .sheet ≡ r .entry .sheet) × (h .rest .at ≡ behind (r .entry .at) (stepAt (now (r .entry .sheet)) (r .entry .at))) ⌝ }
 {
-    step_at(r.sheet, r.at)
+    let found = step_at(r.sheet, r.at);
+    Handed {
+        step: found.step,
+        rest: Reader {
+            sheet: r.sheet,
+            at: found.behind,
+        },
+    }
 }
 
-// The record at a position by way of a reader, for every caller that holds the bytes and a number.
-pub fn record_at(s: &[u8], at: usize) -> Step
-    ensures { λ r. ⌜ r ≡ stepAt (now (s .entry)) at ⌝ }
+// The record at a position and the position behind it by way of a reader, for every caller that holds the bytes and a number.
+pub fn record_at(s: &[u8], at: usize) -> Stepped
+    ensures { λ r. ⌜ r ≡ stepped (now (s .entry)) at ⌝ }
 {
-    next(reader_at(s, at))
+    let handed = next(reader_at(s, at));
+    Stepped {
+        step: handed.step,
+        behind: handed.rest.at,
+    }
 }
 
 // What the sheet's bytes say: the parsed sheet, or the refusal.
@@ -252,23 +284,23 @@ fn refusal(number: u8, place: usize) -> Parsing
     }
 }
 
-// A record that is not cut short, tested against the sheet so far and added to it.
-fn take_record(p: Parsed, s: &[u8], kind: usize, start: usize, len: usize) -> Taken
+// A record that is not cut short, tested against the sheet so far and added to it; the next one starts at `next`.
+fn take_record(p: Parsed, s: &[u8], kind: usize, start: usize, len: usize, next: usize) -> Taken
     requires { ⌜ Known p ⌝ }
     requires { ⌜ start + len ≤ length (now s) ⌝ }
-    ensures { λ r. ⌜ ((k : Known p) → Took (cause (k .sheet) kind (take len (drop start (now (s .entry))))) (start + len) kind (take len (drop start (now (s .entry)))) (k .sheet) r) ⌝ }
+    ensures { λ r. ⌜ ((k : Known p) → Took (cause (k .sheet) kind (take len (drop start (now (s .entry))))) next kind (take len (drop start (now (s .entry)))) (k .sheet) r) ⌝ }
 {
     if faults::is_misplaced(p, kind) {
         return Taken {
             number: 3,
-            next: start,
+            next,
             sheet: p,
         };
     }
     if faults::is_wrong_length(kind, len) {
         return Taken {
             number: 4,
-            next: start,
+            next,
             sheet: p,
         };
     }
@@ -277,29 +309,31 @@ fn take_record(p: Parsed, s: &[u8], kind: usize, start: usize, len: usize) -> Ta
     if number != 0 {
         return Taken {
             number,
-            next: start,
+            next,
             sheet: p,
         };
     }
     Taken {
         number: 0,
-        next: start + len,
+        next,
         sheet: grow::added(p, kind, q),
     }
 }
 
-// The record at a position, tested and added.
+// The record at a position, tested and added; the parser goes on at the position behind it.
 fn read_record(p: Parsed, s: &[u8], at: usize) -> Taken
     requires { ⌜ Known p ⌝ }
     requires { ⌜ at < length (now s) ⌝ }
-    ensures { λ r. ⌜ ((k : Known p) → Took (faultAt (now (s .entry)) at (k .sheet)) (at + 4 + lengthAt (now (s .entry)) at) (kindAt (now (s .entry)) at) (payloadAt (now (s .entry)) at) (k .sheet) r) ⌝ }
+    ensures { λ r. ⌜ ((k : Known p) → Took (faultAt (now (s .entry)) at (k .sheet)) (behind at (stepAt (now (s .entry)) at)) (kindAt (now (s .entry)) at) (payloadAt (now (s .entry)) at) (k .sheet) r) ⌝ }
 {
-    let Step::Record { kind, start, len } = record_at(s, at) else {
+    let found = record_at(s, at);
+    let step = found.step;
+    let Step::Record { kind, start, len } = step else {
         return Taken {
             number: 2,
-            next: at,
+            next: found.behind,
             sheet: p,
         };
     };
-    take_record(p, s, kind, start, len)
+    take_record(p, s, kind, start, len, found.behind)
 }

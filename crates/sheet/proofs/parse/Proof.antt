@@ -1,10 +1,11 @@
 -- The invariant: the sheet so far is known, and the records from here on decide.
-use Rattle.sheet.proofs.Records.{Going, reading-empty, reading-long, going-start, going-untotalled, going-accepted, going-refused, going-next}
+use Rattle.sheet.proofs.Records.{Going, reading-empty, reading-long, going-start, going-untotalled, going-accepted, going-refused, going-on, going-next}
 use borrow.Author.Needs.{needs}
 use Prim.Native.Nat.{_-_}
 use native.Mathlib.Omega.{arith}
-use mathlib.Core.Path.{ap, sym, _∙_}
+use mathlib.Core.Path.{_≡_, ap, sym, _∙_}
 use lib.ListN.{length}
+use Rattle.sheet.specs.Layout.{refused}
 use Rattle.sheet.specs.Packed.{parsing}
 use Rattle.sheet.proofs.parse.Statement.{statement}
 use Rattle.sheet.proofs.parse.Tie as tie
@@ -45,9 +46,14 @@ read-record-requires c κs = (c .before .loop .inv .known, c .loop-test .taken)
 refusal-requires-3 : tie.Need-refusal-requires-3 Inv-loop μ-loop
 refusal-requires-3 c κs = search needs
 
+-- the refusal of a record has its number, and the position where it starts
+refused-at : (c : tie.After-refusal3 Inv-loop μ-loop)
+    → c .refusal3 .result ≡ parsing (refused (c .before .before .before .read-record .result .number) (c .before .before .before .before .before .loop .at))
+refused-at c = c .refusal3 .ensures
+
 returns-3 : tie.Need-returns-3 Inv-loop μ-loop
 returns-3 c =
-    c .refusal3 .ensures
+    refused-at c
     ∙ ap parsing
     (going-refused (c .before .before .before .before .before .before .before .before .before .before .args .s .now)
     (c .before .before .before .before .before .loop .at) (c .before .before .before .before .before .loop .p)
@@ -59,7 +65,11 @@ returns-3 c =
 loop-less : tie.Need-loop-less Inv-loop μ-loop
 loop-less c =
     let t =
-    c .before .before .before .read-record .ensures (c .before .before .before .before .before .loop .inv .known) .next
+    going-on (c .before .before .before .before .before .before .before .before .before .before .args .s .now)
+    (c .before .before .before .before .before .loop .at) (c .before .before .before .before .before .loop .p)
+    (c .before .before .before .before .before .loop .inv) (c .before .before .before .before .loop-test .taken)
+    (c .before .before .before .read-record .result)
+    (c .before .before .before .read-record .ensures (c .before .before .before .before .before .loop .inv .known))
     (c .before .if3 .left) in
     omega (arith, c .before .before .before .before .loop-test .taken)
 

@@ -1,12 +1,15 @@
--- Each return is a case of `stepAt`.
+-- Each return is a case of `stepAt`, with the position behind it.
+use Prim.Native.Nat.{_+_}
 use native.Mathlib.Omega.{arith}
-use Rattle.sheet.proofs.Steps.{cut-head, cut-payload, step-end, step-cut, step-record}
+use Rattle.sheet.specs.Layout.{kindAt, lengthAt}
+use Rattle.sheet.specs.declared.Step.the-variants.{Record, Cut, End}
+use Rattle.sheet.proofs.Steps.{cut-head, cut-payload, step-end, step-cut, step-record, stepped-as}
 use borrow.Author.Needs.{needs}
 use Rattle.sheet.proofs.step_at.Statement.{statement}
 use Rattle.sheet.proofs.step_at.Tie as tie
 
 returns : tie.Need-returns
-returns c = let a = c .before .before .args in step-end (a .s .now) (a .at) (omega arith)
+returns c = let a = c .before .before .args in stepped-as (a .s .now) (a .at) End (step-end (a .s .now) (a .at) (omega arith))
 
 sub-if2 : tie.Need-sub-if2
 sub-if2 c = search needs
@@ -14,7 +17,7 @@ sub-if2 c = search needs
 returns-2 : tie.Need-returns-2
 returns-2 c =
     let a = c .before .before .before .args in
-    step-cut (a .s .now) (a .at) (omega arith) (cut-head (a .s .now) (a .at) (omega arith))
+    stepped-as (a .s .now) (a .at) Cut (step-cut (a .s .now) (a .at) (omega arith) (cut-head (a .s .now) (a .at) (omega arith)))
 
 word-requires : tie.Need-word-requires
 word-requires c κs = search needs
@@ -28,7 +31,7 @@ sub-if3-2 c = search needs
 returns-3 : tie.Need-returns-3
 returns-3 c =
     let a = c .before .before .before .before .before .args in
-    step-cut (a .s .now) (a .at) (omega arith) (cut-payload (a .s .now) (a .at) (omega arith))
+    stepped-as (a .s .now) (a .at) Cut (step-cut (a .s .now) (a .at) (omega arith) (cut-payload (a .s .now) (a .at) (omega arith)))
 
 add-word : tie.Need-add-word
 add-word c = search needs
@@ -36,13 +39,17 @@ add-word c = search needs
 word-requires-2 : tie.Need-word-requires-2
 word-requires-2 c κs = search needs
 
-add-t8 : tie.Need-add-t8
-add-t8 c = search needs
+add-start : tie.Need-add-start
+add-start c = search needs
+
+add-t11 : tie.Need-add-t11
+add-t11 c = search needs
 
 returns-4 : tie.Need-returns-4
 returns-4 c =
     let a = c .before .before .before .before .before .before .args in
-    rw (c .word2 .ensures .0, c .before .before .word .ensures .0) (step-record (a .s .now) (a .at) (omega arith))
+    rw (c .word2 .ensures .0, c .before .before .word .ensures .0)
+    (stepped-as (a .s .now) (a .at) (Record (kindAt (a .s .now) (a .at)) (a .at + 4) (lengthAt (a .s .now) (a .at))) (step-record (a .s .now) (a .at) (omega arith)))
 
 pub step-at-spec : {M : Type 1} → statement M
 step-at-spec =
@@ -57,5 +64,6 @@ step-at-spec =
     returns-3
     add-word
     word-requires-2
-    add-t8
+    add-start
+    add-t11
     returns-4)

@@ -1,5 +1,5 @@
 -- Each return is a case of `cause`; what the tests have shown so far is `Tested`.
-use Prim.Native.Nat.{ℕ, _+_}
+use Prim.Native.Nat.{ℕ}
 use native.Mathlib.Omega.{arith}
 use mathlib.Core.Path.{_≡_, refl, ap, sym, _∙_}
 use mathlib.Core.Bool.{false}
@@ -41,8 +41,8 @@ returns : tie.Need-returns
 returns c k =
     let start = c .before .before .before in
     let a = start .args in
-    took-refused (cause (k .sheet) (a .kind) (payload start)) (a .start + a .len) (a .kind) (payload start) (k .sheet)
-    (record { number = 3; next = a .start; sheet = a .p })
+    took-refused (cause (k .sheet) (a .kind) (payload start)) (a .next) (a .kind) (payload start) (k .sheet)
+    (record { number = 3; next = a .next; sheet = a .p })
     (cause-3 (k .sheet) (a .kind) (payload start) (sym (c .before .is-misplaced .ensures (k .sheet) (k .same)) ∙ c .if1 .taken))
     (λ z. omega arith)
 
@@ -56,8 +56,8 @@ returns-2 : tie.Need-returns-2
 returns-2 c k =
     let start = c .before .before .before .before .before in
     let a = start .args in
-    took-refused (cause (k .sheet) (a .kind) (payload start)) (a .start + a .len) (a .kind) (payload start) (k .sheet)
-    (record { number = 4; next = a .start; sheet = a .p })
+    took-refused (cause (k .sheet) (a .kind) (payload start)) (a .next) (a .kind) (payload start) (k .sheet)
+    (record { number = 4; next = a .next; sheet = a .p })
     (cause-4 (k .sheet) (a .kind) (payload start) (placed (c .before .before) k)
     (ap (wrongLength (a .kind)) (payload-length start) ∙ sym (c .before .is-wrong-length .ensures) ∙ c .if2 .taken))
     (λ z. omega arith)
@@ -86,13 +86,10 @@ returns-3 : tie.Need-returns-3
 returns-3 c k =
     let start = c .before .before .before .before .before .before .before .before in
     let a = start .args in
-    took-refused (cause (k .sheet) (a .kind) (payload start)) (a .start + a .len) (a .kind) (payload start) (k .sheet)
-    (record { number = c .before .fault .result; next = a .start; sheet = a .p })
+    took-refused (cause (k .sheet) (a .kind) (payload start)) (a .next) (a .kind) (payload start) (k .sheet)
+    (record { number = c .before .fault .result; next = a .next; sheet = a .p })
     (later-cause (c .before) k)
     (c .if3 .taken)
-
-add-t11 : tie.Need-add-t11
-add-t11 c = search needs
 
 added-requires : tie.Need-added-requires
 added-requires c κs =
@@ -131,6 +128,5 @@ take-record-spec =
     payload-of-requires
     fault-requires
     returns-3
-    add-t11
     added-requires
     returns-4)
