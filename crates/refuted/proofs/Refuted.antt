@@ -1,0 +1,228 @@
+-- None of the wrong programs of document 01, "Contracts owed", c, meets its contract. A worked sheet refutes most of them: what the contract
+-- says of it is not what the wrong program does. An 11 before looking and an invented sum are refuted at every call, by demand 3.
+use Prim.Native.Nat.{ℕ, _≤_, _<_}
+use native.Mathlib.Decide.{decLt}
+use native.Mathlib.Omega.{arith}
+use mathlib.Core.Path.{_≡_, refl, ap, sym, _∙_}
+use mathlib.Core.Logic.{inl, inr}
+use mathlib.Core.List.{List, [], _∷_}
+use lib.ListN.{length}
+use lib.Dec.{lit<, lit≤}
+use lib.Seq.{getD-take}
+use Rattle.logic.specs.Sheet.{Sheet}
+use Rattle.logic.specs.Structure.{at, sumTo}
+use Rattle.logic.proofs.Meaning.{sumTo-same}
+use Rattle.sheet.specs.Layout.{Reading, accepted, refused, reading, readFrom, cause}
+use Rattle.sheet.specs.Packed.{verdict}
+use Rattle.sheet.specs.declared.Verdict.the-variants as verdicts
+use Rattle.sheet.proofs.Answers.{refused-number}
+use Rattle.tables.specs.Layout.{extent}
+use Rattle.tables.specs.Tests.{wellLaid, inBounds}
+use Rattle.tables.specs.declared.Judgement.{Judgement}
+use Rattle.tables.specs.declared.Judgement.the-variants.{Fits, OutOfBounds}
+use Rattle.tables.proofs.Laid.{well-laid-test}
+use Rattle.judge.specs.Judge.{judged, judgement}
+use Rattle.forced.proofs.Fixed.{no-fixed-reply}
+use Rattle.finder.specs.Find.{turnedDown, ceilings, outcome, fronted, tablesAfter}
+use Rattle.finder.specs.Demand.{Hopeless, tablesWritten}
+use Rattle.finder.specs.Worked.{Row, row1, row2, row5, row13, Shows}
+use Rattle.finder.specs.declared.Finding.{Finding}
+use Rattle.finder.specs.declared.Finding.the-variants.{Found, Refused}
+use Rattle.finder.proofs.Worked.{sheetOf, worked}
+use Rattle.finder.proofs.Outcomes.{outcome-refused, outcome-short}
+use Rattle.finder.proofs.Buffers.{exit}
+use Rattle.finder.proofs.Delivery.{accepted-promised}
+use Rattle.refuted.specs.WrongPrograms.{FindProgram, MeetsFind, LetThrough, ElevenForAll, NeverLooks, ElevenBeforeLooking, SameTables, NoCodeWritten, NoTableWritten, OtherSizesZero, OtherCodesZero, InventedSum, ReadProgram, MeetsRead, RefusesEverySheet, JudgeProgram, MeetsJudge, FixedJudgement, Refuted}
+
+-- ---- the worked sheets that refute
+one-field : Shows row1
+one-field = worked .0
+
+no-sizes : Shows row2
+no-sizes = worked .1 .0
+
+two-codes : Shows row5
+two-codes = worked .1 .1 .1 .1 .0
+
+two-fields : Shows row13
+two-fields = worked .1 .1 .1 .1 .1 .1 .1 .1 .1 .1 .1 .1 .0
+
+-- a blank buffer, long enough for each of these rows
+abbrev blank : List ℕ
+blank = 0 ∷ 0 ∷ 0 ∷ 0 ∷ 0 ∷ 0 ∷ []
+
+one-field-through : LetThrough (row1 .sheet) blank blank
+unfolding reading readFrom cause
+one-field-through = record { sheet = sheetOf row1; reads = refl; codesFit = lit≤ tt; tablesFit = lit≤ tt }
+
+no-sizes-through : LetThrough (row2 .sheet) blank blank
+unfolding reading readFrom cause
+no-sizes-through = record { sheet = sheetOf row2; reads = refl; codesFit = lit≤ tt; tablesFit = lit≤ tt }
+
+two-fields-read : reading (row13 .sheet) ≡ accepted (sheetOf row13)
+unfolding reading readFrom cause
+two-fields-read = refl
+
+-- 0 is not another number
+differ : {n : ℕ} → 0 < n → n ≡ 0 → ⊥
+differ h e = omega arith
+
+found-not-refused : {n m i : ℕ} → Found n ≡ Refused m i → ⊥
+found-not-refused e = let z : _≡_ {A = ℕ} 0 1 = cc in omega arith
+
+-- ---- find
+module _ (p : FindProgram) (meets : MeetsFind p) where
+  -- what a program that meets the contract does at a worked sheet
+  module _ (r : Row) (k : Shows r) (codesFit : r .codeBytes ≤ 6) (tablesFit : r .tableBytes ≤ 6) where
+    result-of : p .result (r .sheet) blank blank ≡ r .result
+    result-of = meets (r .sheet) blank blank .result ∙ k .shown blank blank codesFit tablesFit .result
+
+    codes-of : p .codes (r .sheet) blank blank ≡ fronted (r .codes) blank
+    codes-of = meets (r .sheet) blank blank .codes ∙ k .shown blank blank codesFit tablesFit .codes
+
+    tables-of : p .tables (r .sheet) blank blank ≡ fronted (r .tables) blank
+    tables-of = meets (r .sheet) blank blank .tables ∙ k .shown blank blank codesFit tablesFit .tables
+
+  one-found : p .result (row1 .sheet) blank blank ≡ Found 1
+  one-found = result-of row1 one-field (lit≤ tt) (lit≤ tt)
+
+  two-found : p .result (row5 .sheet) blank blank ≡ Found 2
+  two-found = result-of row5 two-codes (lit≤ tt) (lit≤ tt)
+
+  four-found : p .result (row13 .sheet) blank blank ≡ Found 4
+  four-found = result-of row13 two-fields (lit≤ tt) (lit≤ tt)
+
+  not-eleven-for-all : ElevenForAll p → ⊥
+  not-eleven-for-all wrong = found-not-refused (sym one-found ∙ wrong (row1 .sheet) blank blank one-field-through)
+
+  not-never-looks : NeverLooks p → ⊥
+  not-never-looks wrong =
+      found-not-refused
+      (sym one-found ∙ wrong (row1 .sheet) blank blank (row2 .sheet) blank blank one-field-through no-sizes-through ∙ result-of row2 no-sizes (lit≤ tt) (lit≤ tt))
+
+  not-same-tables : SameTables p → ⊥
+  not-same-tables wrong =
+      let one = sym (tables-of row1 one-field (lit≤ tt) (lit≤ tt)) ∙ wrong .same (row1 .sheet) blank blank 1 one-found in
+      let two = sym (tables-of row5 two-codes (lit≤ tt) (lit≤ tt)) ∙ wrong .same (row5 .sheet) blank blank 2 two-found in
+      let z : _≡_ {A = ℕ} 1 2 = ap (λ (l : List ℕ). at l 0) (one ∙ sym two) in
+      omega arith
+
+  not-no-code-written : NoCodeWritten p → ⊥
+  not-no-code-written wrong =
+      differ (lit< tt) (ap (λ (l : List ℕ). at l 1) (sym (codes-of row5 two-codes (lit≤ tt) (lit≤ tt)) ∙ wrong (row5 .sheet) blank blank 2 two-found))
+
+  not-no-table-written : NoTableWritten p → ⊥
+  not-no-table-written wrong =
+      differ (lit< tt) (ap (λ (l : List ℕ). at l 0) (sym (tables-of row1 one-field (lit≤ tt) (lit≤ tt)) ∙ wrong (row1 .sheet) blank blank 1 one-found))
+
+  not-other-sizes-zero : OtherSizesZero p → ⊥
+  unfolding reading readFrom cause
+  not-other-sizes-zero wrong =
+      differ (lit< tt)
+      (ap (λ (l : List ℕ). at l 1) (sym (tables-of row13 two-fields (lit≤ tt) (lit≤ tt)))
+      ∙ wrong (row13 .sheet) blank blank (sheetOf row13) 4 two-fields-read four-found 1 (lit≤ tt) (lit< tt))
+
+  not-other-codes-zero : OtherCodesZero p → ⊥
+  unfolding reading readFrom cause
+  not-other-codes-zero wrong =
+      differ (lit< tt)
+      (ap (λ (l : List ℕ). at l 3) (sym (codes-of row13 two-fields (lit≤ tt) (lit≤ tt)))
+      ∙ wrong (row13 .sheet) blank blank (sheetOf row13) 4 two-fields-read four-found 3 (lit< tt) (lit≤ tt))
+
+  module _ (s cs ts : List ℕ) where
+    abbrev gives : Finding
+    gives = p .result s cs ts
+
+    turned-down : (n i : ℕ) → outcome s (length cs) (length ts) ≡ turnedDown n i → gives ≡ Refused n i
+    turned-down n i q = meets s cs ts .result ∙ exit s cs ts (turnedDown n i) q .result
+
+    -- the buffers suffice where the answer is not 10
+    room : (sh : Sheet) → reading s ≡ accepted sh → (gives ≡ Refused 10 0 → ⊥) → (length (sh .terms) ≤ length cs) × (extent sh (ceilings sh) ≤ length ts)
+    room sh reads enough =
+        elim (decLt (length cs) (length (sh .terms))) [
+          | yes h ↦ absurd (enough (turned-down 10 0 (outcome-short s sh (length cs) (length ts) reads (inl h))))
+          | no codesFit ↦
+              elim (decLt (length ts) (extent sh (ceilings sh))) [
+                | yes h ↦ absurd (enough (turned-down 10 0 (outcome-short s sh (length cs) (length ts) reads (inr h))))
+                | no tablesFit ↦ (omega arith, omega arith)
+              ]
+        ]
+
+    -- 11 is answered only where no candidate satisfies every statement
+    pub eleven-hopeless : gives ≡ Refused 11 0 → (k : LetThrough s cs ts) × Hopeless (k .sheet)
+    eleven-hopeless e = go (reading s) refl
+      where
+        go : (R : Reading) → reading s ≡ R → (k : LetThrough s cs ts) × Hopeless (k .sheet)
+        go (refused n i) q =
+            let r : Refused n i ≡ Refused 11 0 = sym (turned-down n i (outcome-refused s n i (length cs) (length ts) q)) ∙ e in
+            let same : n ≡ 11 = cc in
+            absurd (omega (arith, refused-number s n i q))
+        go (accepted sh) q =
+            let r = room sh q (λ d. let z : _≡_ {A = ℕ} 10 11 = cc in omega arith) in
+            (record { sheet = sh; reads = q; codesFit = r .0; tablesFit = r .1 }, accepted-promised s cs ts sh q (r .0) (r .1) .refuses .0 (sym (meets s cs ts .result) ∙ e))
+
+    -- the sum found is that of the sizes written
+    pub sum-written : (sh : Sheet) (n : ℕ) → reading s ≡ accepted sh → gives ≡ Found n → n ≡ sumTo (length (sh .bounds)) (at (p .tables s cs ts))
+    sum-written sh n reads found =
+        let r = room sh reads (λ d. found-not-refused (sym found ∙ d)) in
+        let bytes = tablesAfter s cs ts in
+        accepted-promised s cs ts sh reads (r .0) (r .1) .delivers n (sym (meets s cs ts .result) ∙ found) .sum
+        ∙ sumTo-same (length (sh .bounds)) (at (tablesWritten sh bytes)) (at bytes) (λ i h. getD-take (extent sh (at bytes)) bytes i 0 (omega arith))
+        ∙ ap (λ (l : List ℕ). sumTo (length (sh .bounds)) (at l)) (sym (meets s cs ts .tables))
+
+  not-eleven-before-looking : ElevenBeforeLooking p → ⊥
+  not-eleven-before-looking wrong =
+      let r = eleven-hopeless (wrong .sheet) (wrong .codes) (wrong .tables) (wrong .eleven) in
+      wrong .unlooked (r .0) (r .1)
+
+  not-invented-sum : InventedSum p → ⊥
+  not-invented-sum wrong =
+      wrong .invented (sum-written (wrong .sheet) (wrong .codes) (wrong .tables) (wrong .read) (wrong .sum) (wrong .reads) (wrong .found))
+
+-- ---- read
+row1-accepted : verdict (reading (row1 .sheet)) ≡ verdicts.Accepted
+unfolding verdict reading readFrom cause
+row1-accepted = refl
+
+not-refuses-every-sheet : (p : ReadProgram) → MeetsRead p → RefusesEverySheet p → ⊥
+not-refuses-every-sheet p meets wrong =
+    let r = wrong (row1 .sheet) in
+    let e : verdicts.Accepted ≡ verdicts.Refused (r .0) (r .1) = sym row1-accepted ∙ sym (meets (row1 .sheet)) ∙ r .2 in
+    let z : _≡_ {A = ℕ} 0 1 = cc in
+    omega arith
+
+-- ---- judge
+-- tables of one field that has one code, and two: the first fit, the second are out of bounds
+row1-fits : judgement (row1 .sheet) (1 ∷ []) ≡ Fits
+unfolding judgement judged wellLaid inBounds reading readFrom cause
+row1-fits = refl
+
+row1-out : judgement (row1 .sheet) (2 ∷ []) ≡ OutOfBounds
+unfolding judgement judged wellLaid inBounds reading readFrom cause
+row1-out = refl
+
+not-fixed-judgement : (p : JudgeProgram) (r : Judgement) → MeetsJudge p → FixedJudgement p r → ⊥
+unfolding wellLaid reading readFrom cause
+not-fixed-judgement p r meets wrong =
+    let fits : Fits ≡ r = sym row1-fits ∙ sym (meets (row1 .sheet) (1 ∷ [])) ∙ wrong (row1 .sheet) (1 ∷ []) (sheetOf row1) refl (well-laid-test (sheetOf row1) (1 ∷ []) .0 refl) in
+    let out : OutOfBounds ≡ r = sym row1-out ∙ sym (meets (row1 .sheet) (2 ∷ [])) ∙ wrong (row1 .sheet) (2 ∷ []) (sheetOf row1) refl (well-laid-test (sheetOf row1) (2 ∷ []) .0 refl) in
+    let z : _≡_ {A = ℕ} 0 1 = cc in
+    omega arith
+
+-- THEOREM: the wrong programs are refuted
+pub refuted : Refuted
+refuted =
+    record {
+      eleven-for-all = not-eleven-for-all;
+      never-looks = not-never-looks;
+      eleven-before-looking = not-eleven-before-looking;
+      same-tables = not-same-tables;
+      no-code-written = not-no-code-written;
+      no-table-written = not-no-table-written;
+      other-sizes-zero = not-other-sizes-zero;
+      other-codes-zero = not-other-codes-zero;
+      invented-sum = not-invented-sum;
+      refuses-every-sheet = not-refuses-every-sheet;
+      fixed-judgement = not-fixed-judgement;
+      fixed-forcing = λ p r meets wrong. no-fixed-reply r (λ s sh a b q t. sym (wrong s a b sh q t) ∙ meets s a b);
+    }

@@ -1,0 +1,136 @@
+-- The wrong programs of document 01, "Contracts owed", c, in the paper's order. A program is what it gives back, and leaves in the buffers, for
+-- every call; to meet a contract is to do so at every call. `refuted` of proofs/Refuted.antt: none of these meets the contract of its
+-- question.
+use Prim.Native.Nat.{ℕ, _≤_, _<_}
+use mathlib.Core.Path.{_≡_}
+use mathlib.Core.Bool.{true}
+use mathlib.Core.List.{List}
+use lib.ListN.{length}
+use Rattle.logic.specs.Sheet.{Sheet, sortAt}
+use Rattle.logic.specs.Structure.{at, sumTo}
+use Rattle.sheet.specs.Layout.{accepted, reading}
+use Rattle.sheet.specs.Packed.{verdict}
+use Rattle.sheet.specs.declared.Verdict.{Verdict}
+use Rattle.sheet.specs.declared.Verdict.the-variants as verdicts
+use Rattle.tables.specs.Layout.{extent, WellLaid}
+use Rattle.tables.specs.declared.Judgement.{Judgement}
+use Rattle.judge.specs.Judge.{judgement}
+use Rattle.forced.specs.Answer.{comparable, answer}
+use Rattle.forced.specs.declared.Forcing.{Forcing}
+use Rattle.finder.specs.Find.{ceilings}
+use Rattle.finder.specs.Fill.{Finds}
+use Rattle.finder.specs.Demand.{Hopeless}
+use Rattle.finder.specs.declared.Finding.{Finding}
+use Rattle.finder.specs.declared.Finding.the-variants.{Found, Refused}
+
+-- ---- FIND (demand 3)
+-- the result, and the code and the table buffer at exit, from the sheet's bytes and both buffers at entry
+pub record FindProgram : Type 0 where
+  pub result : List ℕ → List ℕ → List ℕ → Finding
+  pub codes : List ℕ → List ℕ → List ℕ → List ℕ
+  pub tables : List ℕ → List ℕ → List ℕ → List ℕ
+
+-- the contract of finder::find: its three clauses are the fields of `Finds`
+abbrev pub MeetsFind : FindProgram → Type 0
+MeetsFind p = (s cs ts : List ℕ) → Finds s cs ts (p .codes s cs ts) (p .tables s cs ts) (p .result s cs ts)
+
+-- a call that none of the causes 1 to 10 stops: the sheet is accepted, and the buffers suffice
+pub record LetThrough (s cs ts : List ℕ) : Type 0 where
+  pub sheet : Sheet
+  pub reads : reading s ≡ accepted sheet
+  pub codesFit : length (sheet .terms) ≤ length cs
+  pub tablesFit : extent sheet (ceilings sheet) ≤ length ts
+
+-- answers 11 for all sheets, once they are accepted and the buffers suffice
+abbrev pub ElevenForAll : FindProgram → Type 0
+ElevenForAll p = (s cs ts : List ℕ) → LetThrough s cs ts → p .result s cs ts ≡ Refused 11 0
+
+-- answers before looking: once the bytes are read and the buffers measured, every sheet gets the same answer
+abbrev pub NeverLooks : FindProgram → Type 0
+NeverLooks p = (s cs ts s′ cs′ ts′ : List ℕ) → LetThrough s cs ts → LetThrough s′ cs′ ts′ → p .result s cs ts ≡ p .result s′ cs′ ts′
+
+-- answers 11 before looking: to some call that a cause before 11 stops, or whose sheet has a candidate that satisfies every statement
+pub record ElevenBeforeLooking (p : FindProgram) : Type 0 where
+  pub sheet : List ℕ
+  pub codes : List ℕ
+  pub tables : List ℕ
+  pub eleven : p .result sheet codes tables ≡ Refused 11 0
+  pub unlooked : (k : LetThrough sheet codes tables) → Hopeless (k .sheet) → ⊥
+
+-- hands out the same tables each time: what the table buffer holds does not depend on the sheet
+pub record SameTables (p : FindProgram) : Type 0 where
+  pub after : List ℕ → List ℕ
+  pub same : (s cs ts : List ℕ) (n : ℕ) → p .result s cs ts ≡ Found n → p .tables s cs ts ≡ after ts
+
+-- says found and writes no byte of the codes, or none of the tables
+abbrev pub NoCodeWritten : FindProgram → Type 0
+NoCodeWritten p = (s cs ts : List ℕ) (n : ℕ) → p .result s cs ts ≡ Found n → p .codes s cs ts ≡ cs
+
+abbrev pub NoTableWritten : FindProgram → Type 0
+NoTableWritten p = (s cs ts : List ℕ) (n : ℕ) → p .result s cs ts ≡ Found n → p .tables s cs ts ≡ ts
+
+-- settles the first field and writes 0 for the rest: for the sizes of the other fields, or for the codes of their expressions
+abbrev pub OtherSizesZero : FindProgram → Type 0
+OtherSizesZero p = (s cs ts : List ℕ) (sh : Sheet) (n : ℕ) → reading s ≡ accepted sh → p .result s cs ts ≡ Found n → (t : ℕ) → 1 ≤ t → t < length (sh .bounds) → at (p .tables s cs ts) t ≡ 0
+
+abbrev pub OtherCodesZero : FindProgram → Type 0
+OtherCodesZero p = (s cs ts : List ℕ) (sh : Sheet) (n : ℕ) → reading s ≡ accepted sh → p .result s cs ts ≡ Found n → (i : ℕ) → i < length (sh .terms) → 1 ≤ sortAt sh i → at (p .codes s cs ts) i ≡ 0
+
+-- reports an invented sum to some call: one that is not that of the sizes written
+pub record InventedSum (p : FindProgram) : Type 0 where
+  pub sheet : List ℕ
+  pub codes : List ℕ
+  pub tables : List ℕ
+  pub read : Sheet
+  pub reads : reading sheet ≡ accepted read
+  pub sum : ℕ
+  pub found : p .result sheet codes tables ≡ Found sum
+  pub invented : sum ≡ sumTo (length (read .bounds)) (at (p .tables sheet codes tables)) → ⊥
+
+-- ---- READ (demand 2)
+abbrev pub ReadProgram : Type 0
+ReadProgram = List ℕ → Verdict
+
+abbrev pub MeetsRead : ReadProgram → Type 0
+MeetsRead p = (s : List ℕ) → p s ≡ verdict (reading s)
+
+-- refuses every sheet, with whatever number and place
+abbrev pub RefusesEverySheet : ReadProgram → Type 0
+RefusesEverySheet p = (s : List ℕ) → (n : ℕ) × (i : ℕ) × (p s ≡ verdicts.Refused n i)
+
+-- ---- JUDGE (demand 2)
+abbrev pub JudgeProgram : Type 0
+JudgeProgram = List ℕ → List ℕ → Judgement
+
+abbrev pub MeetsJudge : JudgeProgram → Type 0
+MeetsJudge p = (s t : List ℕ) → p s t ≡ judgement s t
+
+-- one fixed reply, even if only to calls that are not turned down: accepted sheets with well-laid tables
+abbrev pub FixedJudgement : JudgeProgram → Judgement → Type 0
+FixedJudgement p r = (s t : List ℕ) (sh : Sheet) → reading s ≡ accepted sh → WellLaid sh t → p s t ≡ r
+
+-- ---- FORCED (demand 2)
+abbrev pub ForcedProgram : Type 0
+ForcedProgram = List ℕ → ℕ → ℕ → Forcing
+
+abbrev pub MeetsForced : ForcedProgram → Type 0
+MeetsForced p = (s : List ℕ) (a b : ℕ) → p s a b ≡ answer s a b
+
+-- one fixed reply, even if only to calls that are not turned down: expressions of an accepted sheet that lie in one field
+abbrev pub FixedForcing : ForcedProgram → Forcing → Type 0
+FixedForcing p r = (s : List ℕ) (a b : ℕ) (sh : Sheet) → reading s ≡ accepted sh → comparable sh a b ≡ true → p s a b ≡ r
+
+-- ---- ALL OF THEM
+pub record Refuted : Type 0 where
+  pub eleven-for-all : (p : FindProgram) → MeetsFind p → ElevenForAll p → ⊥
+  pub never-looks : (p : FindProgram) → MeetsFind p → NeverLooks p → ⊥
+  pub eleven-before-looking : (p : FindProgram) → MeetsFind p → ElevenBeforeLooking p → ⊥
+  pub same-tables : (p : FindProgram) → MeetsFind p → SameTables p → ⊥
+  pub no-code-written : (p : FindProgram) → MeetsFind p → NoCodeWritten p → ⊥
+  pub no-table-written : (p : FindProgram) → MeetsFind p → NoTableWritten p → ⊥
+  pub other-sizes-zero : (p : FindProgram) → MeetsFind p → OtherSizesZero p → ⊥
+  pub other-codes-zero : (p : FindProgram) → MeetsFind p → OtherCodesZero p → ⊥
+  pub invented-sum : (p : FindProgram) → MeetsFind p → InventedSum p → ⊥
+  pub refuses-every-sheet : (p : ReadProgram) → MeetsRead p → RefusesEverySheet p → ⊥
+  pub fixed-judgement : (p : JudgeProgram) (r : Judgement) → MeetsJudge p → FixedJudgement p r → ⊥
+  pub fixed-forcing : (p : ForcedProgram) (r : Forcing) → MeetsForced p → FixedForcing p r → ⊥
