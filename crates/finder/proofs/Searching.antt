@@ -25,8 +25,8 @@ use Rattle.tables.proofs.Whole.{packs-limited}
 use Rattle.tables.proofs.Tables.{extent-monotone}
 use Rattle.codes.specs.Searchable.{Searchable}
 use Rattle.finder.specs.Answer.{entryOf}
-use Rattle.finder.specs.Find.{Outcome, turnedDown, answered, outcome, finds, codesIn, tablesIn, ceilings, finding, codesAfter, tablesAfter}
-use Rattle.finder.specs.Fill.{Writable, AnswerWritten, ReadFrom, Finds}
+use Rattle.finder.specs.Find.{Outcome, turnedDown, answered, outcome, finds, codesIn, tablesIn, ceilings, finding, codesAfter, tablesAfter, Finds}
+use Rattle.finder.specs.Fill.{Writable, AnswerWritten, ReadFrom}
 use Rattle.finder.specs.declared.Finding.{Finding}
 use Rattle.finder.specs.declared.Finding.the-variants.{Found, Refused}
 use Rattle.finder.proofs.Outcomes.{outcome-refused, outcome-short}

@@ -15,8 +15,7 @@ use Rattle.tables.specs.Layout.{extent, encoded}
 use Rattle.tables.specs.Grid.{gridCell}
 use Rattle.tables.specs.Parts.{Packs}
 use Rattle.finder.specs.Answer.{Entry, entryOf, sum, structureOf}
-use Rattle.finder.specs.Find.{fronted, finding, codesAfter, tablesAfter}
-use Rattle.finder.specs.declared.Finding.{Finding}
+use Rattle.finder.specs.Find.{fronted}
 
 -- term i reaches the cell of symbol f in this row and column
 abbrev pub reaches : Problem → (ℕ → ℕ) → ℕ → ℕ → ℕ → ℕ → Bool
@@ -57,9 +56,3 @@ pub record ReadFrom (p : Parsed) : Type 0 where
   pub sheet : Sheet
   pub reads : reading bytes ≡ accepted sheet
   pub same : p ≡ packed sheet
-
--- WHAT FIND PROMISES of a call on the bytes s: the result, and every byte of both buffers. A primed buffer is the buffer at exit.
-pub record Finds (s cs ts cs′ ts′ : List ℕ) (r : Finding) : Type 0 where
-  pub result : r ≡ finding s (length cs) (length ts)
-  pub codes : cs′ ≡ codesAfter s cs ts
-  pub tables : ts′ ≡ tablesAfter s cs ts

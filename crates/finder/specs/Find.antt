@@ -1,6 +1,7 @@
 -- What "find" gives back for every call, and what both buffers hold afterwards (document 01, "The five questions" and "Why a call is
 -- turned down").
 use Prim.Native.Nat.{ℕ}
+use mathlib.Core.Path.{_≡_}
 use mathlib.Core.Bool.{Bool, true, false, _||_}
 use mathlib.Core.List.{List, _++_}
 use mathlib.Core.Option.{Option, none, some}
@@ -68,3 +69,10 @@ tablesIn (answered sh e) tables = fronted (encoded (structureOf sh e) sh) tables
 
 unfoldable pub tablesAfter : List ℕ → List ℕ → List ℕ → List ℕ
 tablesAfter s codes tables = tablesIn (outcome s (length codes) (length tables)) tables
+
+-- WHAT FIND PROMISES of a call on the bytes s, the three clauses of its contract: the result, and every byte of both buffers. A primed
+-- buffer is the buffer at exit.
+pub record Finds (s cs ts cs′ ts′ : List ℕ) (r : Finding) : Type 0 where
+  pub result : r ≡ finding s (length cs) (length ts)
+  pub codes : cs′ ≡ codesAfter s cs ts
+  pub tables : ts′ ≡ tablesAfter s cs ts

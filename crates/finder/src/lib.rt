@@ -10,8 +10,8 @@ ghost use Rattle.logic.specs.Sheet.{Sheet};
 ghost use Rattle.logic.specs.Order.{firsts};
 ghost use Rattle.tables.specs.Layout.{extent};
 ghost use Rattle.tables.specs.Parts.{Packs, Limited};
-ghost use Rattle.finder.specs.Find.{ceilings, fronted, finding, codesAfter, tablesAfter};
-ghost use Rattle.finder.specs.Fill.{Filled, Writable, AnswerWritten, ReadFrom, Finds, answerBytes};
+ghost use Rattle.finder.specs.Find.{ceilings, fronted, finding, codesAfter, tablesAfter, Finds};
+ghost use Rattle.finder.specs.Fill.{Filled, Writable, AnswerWritten, ReadFrom, answerBytes};
 
 // The answer to the question "find".
 pub enum Finding {

@@ -17,8 +17,7 @@ use Rattle.tables.specs.declared.Judgement.{Judgement}
 use Rattle.judge.specs.Judge.{judgement}
 use Rattle.forced.specs.Answer.{comparable, answer}
 use Rattle.forced.specs.declared.Forcing.{Forcing}
-use Rattle.finder.specs.Find.{ceilings}
-use Rattle.finder.specs.Fill.{Finds}
+use Rattle.finder.specs.Find.{ceilings, Finds}
 use Rattle.finder.specs.Demand.{Hopeless}
 use Rattle.finder.specs.declared.Finding.{Finding}
 use Rattle.finder.specs.declared.Finding.the-variants.{Found, Refused}
