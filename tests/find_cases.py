@@ -6,9 +6,12 @@ byte that find left as it was. Run from the repository's top: python3 tests/find
 """
 import pathlib
 
-from examples import CHAIN, IMAGES, PAIR, PAIRS, TRIPLE, differ, field, name, same, term, total
+import read_cases
+from examples import CHAIN, END, IMAGES, PAIR, PAIRS, REFUSED, TRIPLE, differ, field, name, raw, record, same, term, total
 
 LEFT = 238
+# what the program has room for: bytes of all cases, and of either buffer
+MOST_INPUT, MOST_BUFFER = 65536, 136
 CASES = []
 
 
@@ -21,9 +24,13 @@ def found(why, sheet, codes, tables, ceilings, spare=0):
     CASES.append((why, sheet, long_codes, long_tables, result, codes + [LEFT] * spare, cells + [LEFT] * (long_tables - len(cells))))
 
 
-def refused(why, sheet, codes, tables, number):
-    """A refusal at place 0: both buffers are as they were."""
-    CASES.append((why, sheet, codes, tables, f"refused {number} 0", [LEFT] * codes, [LEFT] * tables))
+def refused(why, sheet, codes, tables, number, place=0):
+    """A refusal: both buffers are as they were."""
+    unchanged(why, sheet, codes, tables, f"refused {number} {place}")
+
+
+def unchanged(why, sheet, codes, tables, result):
+    CASES.append((why, sheet, codes, tables, result, [LEFT] * codes, [LEFT] * tables))
 
 
 # The fourteen worked sheets.
@@ -85,7 +92,29 @@ TERMS = [term(0)] + [term(1 + i % 63, 0, i // 63) for i in range(127)]
 LONGEST = field(1, 1) * 8 + name(0) + name(0, 0, 0) * 63 + b"".join(TERMS) + same(0, 127) * 128 + total(8)
 assert len(LONGEST) == 2161
 found("the longest sheet", LONGEST, [0] * 128, [[1] * 8] + [[0]] * 64, 72)
-refused("no sheet", b"", 0, 0, 1)
+
+# Refusals 1 to 9. Every refused sheet of examples/, with long buffers: not a byte of them changes. The sheet of 4,096 bytes is left out, since the
+# program's input has no room for it.
+for stem, (sheet, output) in REFUSED.items():
+    if stem != "refused_03_behind_total":
+        unchanged(stem, sheet, MOST_BUFFER, MOST_BUFFER, output.rstrip("\n"))
+# Every sheet up to 1,000 bytes that read refuses: find refuses it likewise. Tables begin with the size of a field, so that a table buffer of no byte
+# is too short for any sheet; 10 comes after 1 to 9.
+for sheet, answer in read_cases.cases:
+    if answer != read_cases.ACCEPTED and len(sheet) <= 1000:
+        unchanged("as read refuses it", sheet, 1, 0, answer)
+# No size lies from 3 to 2, so that all of these would be 11 if their bytes were in order; the buffers are just long enough. 28 bytes.
+NO_SIZE = field(3, 2) + name(0) + name(0, 0) + term(0) + term(1, 0)
+refused("the whole sheet is 11", NO_SIZE + END, 2, 4, 11)
+refused("1, not 11: bytes behind the total, 4,097 in all", NO_SIZE + END + bytes(4097 - 33), 2, 4, 1)
+refused("2, not 11: the total's payload is missing", NO_SIZE + raw(1, 6), 2, 4, 2, 28)
+refused("3, not 11: a name behind the expressions", NO_SIZE + name(0) + END, 2, 4, 3, 28)
+refused("4, not 11: a differ of three bytes", NO_SIZE + record(5, 0, 1, 0) + END, 2, 4, 4, 28)
+refused("5, not 11: the 129th statement, behind 128 of 6 bytes", NO_SIZE + same(0, 1) * 129 + END, 2, 4, 5, 796)
+refused("6, not 11: total 0", NO_SIZE + total(0), 2, 4, 6, 28)
+refused("7, not 11: f without its argument", NO_SIZE + term(1) + END, 2, 4, 7, 28)
+refused("8, not 11: f(x) again", NO_SIZE + term(1, 0) + END, 2, 4, 8, 28)
+refused("9, not 11: no total, at the sheet's length", NO_SIZE, 2, 4, 9, 28)
 
 if __name__ == "__main__":
     folder = pathlib.Path("crates/find_cases")
@@ -93,5 +122,7 @@ if __name__ == "__main__":
     for _, sheet, codes, tables, result, codes_after, tables_after in CASES:
         lines += [sheet.hex(), f"{codes} {tables}"]
         answers += [result, " ".join(["codes", *map(str, codes_after)]), " ".join(["tables", *map(str, tables_after)])]
-    (folder / "stdin").write_text("\n".join(lines) + "\n")
+    text = "\n".join(lines) + "\n"
+    assert len(text) <= MOST_INPUT
+    (folder / "stdin").write_text(text)
     (folder / "stdout").write_text("\n".join(answers) + "\n")

@@ -7,6 +7,9 @@ by hand with its reason; nothing is computed but sums of record lengths where a 
 
 from pathlib import Path
 
+from examples import differ, field, name, raw, record, same, total
+from examples import term as expression
+
 cases = []
 
 
@@ -19,42 +22,6 @@ def refused(number, place):
 
 
 ACCEPTED = "accepted"
-
-
-# ---- records: a length (two bytes), a kind (two bytes) and a payload; multi-byte numbers are little-endian
-def raw(length, kind, *payload):
-    """A record whose length may be a lie."""
-    return length.to_bytes(2, "little") + kind.to_bytes(2, "little") + bytes(payload)
-
-
-def record(kind, *payload):
-    return raw(len(payload), kind, *payload)
-
-
-def field(floor, ceiling):  # 6 bytes
-    return record(1, floor, ceiling)
-
-
-def name(result, *parameters):  # 5 bytes, and one for each parameter
-    return record(2, result, *parameters)
-
-
-def expression(symbol, *arguments):  # 5 bytes, and one for each argument
-    return record(3, symbol, *arguments)
-
-
-def same(left, right):  # 6 bytes
-    return record(4, left, right)
-
-
-def differ(left, right):  # 6 bytes
-    return record(5, left, right)
-
-
-def total(greatest):  # 5 bytes
-    return record(6, greatest)
-
-
 FIELD = field(1, 4)
 END = total(16)
 # one field, an argumentless name x, a name f of one argument and its first expression x: 6 + 5 + 6 + 5 = 22 bytes
@@ -293,6 +260,7 @@ case("the longest sheet", ACCEPTED, *LONGEST)
 case("the longest sheet and a byte", refused(2, 2161), *LONGEST, bytes([0]))
 case("the longest sheet without its total", refused(9, 2156), *LONGEST[:-1])
 
-crate = Path(__file__).resolve().parent.parent / "crates" / "read_cases"
-(crate / "stdin").write_text("".join(sheet.hex() + "\n" for sheet, _ in cases))
-(crate / "stdout").write_text("".join(expected + "\n" for _, expected in cases))
+if __name__ == "__main__":
+    crate = Path(__file__).resolve().parent.parent / "crates" / "read_cases"
+    (crate / "stdin").write_text("".join(sheet.hex() + "\n" for sheet, _ in cases))
+    (crate / "stdout").write_text("".join(expected + "\n" for _, expected in cases))

@@ -1,4 +1,4 @@
-/* The finder for C programs: link target/staticlib/libgateway.a (rt staticlib gateway).
+/* The finder for C and C++ programs: link target/staticlib/libgateway.a (rt staticlib gateway).
  *
  * Each buffer is a pointer and a length in bytes; a NULL pointer goes with length 0. Buffers do not overlap.
  * A refusal has its number in the upper 16 bits of the result and its place in the lower 16; every buffer is then as it was. */
@@ -8,6 +8,10 @@
 #include <stddef.h>
 #include <stdint.h>
 
+#ifdef __cplusplus
+extern "C" {
+#endif
+
 /* Finds the first answer to a sheet. Refused (1 to 9, 10, 11) or else the sum of the sizes; then one code per expression stands in
  * codes and the tables stand in tables, and bytes behind them are as they were. codes has at least one byte per expression, and
  * tables is as long as the tables would be with every size at its ceiling (128 and 16,392 bytes always suffice). */
@@ -16,5 +20,9 @@ uint32_t find(const uint8_t *sheet, size_t sheet_length, uint8_t *codes, size_t 
 /* Judges offered tables, which have exactly the length that their sizes say. Refused (1 to 9, 12) or else 0 where they fit the
  * sheet, 1 where a size or the sum is out of bounds, and 2 + k where statement k is the first that is not satisfied. */
 uint32_t judge(const uint8_t *sheet, size_t sheet_length, const uint8_t *tables, size_t tables_length);
+
+#ifdef __cplusplus
+}
+#endif
 
 #endif

@@ -65,6 +65,16 @@ static struct extent extent_of(const uint8_t *sheet, size_t length, const uint8_
     return e;
 }
 
+/* a sheet that is refused for what lies in its bytes: judge refuses it alike, and so does find with buffers that are too short */
+static void refused(const char *name, const uint8_t *sheet, size_t length, uint32_t refusal, uint8_t pattern)
+{
+    fill(pattern);
+    expect(find(sheet, length, codes, MOST_CODES, tables, MOST_TABLES) == refusal, "find refuses the sheet again", name);
+    expect(find(sheet, length, NULL, 0, NULL, 0) == refusal, "1 to 9 come before 10", name);
+    expect(judge(sheet, length, tables, MOST_TABLES) == refusal, "judge refuses the sheet too", name);
+    expect(untouched(pattern), "refusals 1 to 9 leave the buffers", name);
+}
+
 /* an accepted sheet: the answer or 11, buffers one byte short, and the judge on what was found */
 static void accepted(const char *name, const uint8_t *sheet, size_t length, uint8_t pattern)
 {
@@ -106,11 +116,15 @@ int main(int count, char **words)
         expect(untouched(pattern), "refusals leave the buffers", "find");
         for (int i = 1; i < count; i++) {
             FILE *file = fopen(words[i], "rb");
-            size_t length = file ? fread(sheet, 1, sizeof sheet, file) : 0;
-            if (file)
-                fclose(file);
-            expect(length != 0, "the sheet can be read", words[i]);
-            if (length)
+            expect(file != NULL, "the sheet can be read", words[i]);
+            if (!file)
+                continue;
+            size_t length = fread(sheet, 1, sizeof sheet, file);
+            fclose(file);
+            uint32_t refusal = find(sheet, length, codes, MOST_CODES, tables, MOST_TABLES);
+            if (refusal >> 16 && refusal >> 16 < 10)
+                refused(words[i], sheet, length, refusal, pattern);
+            else
                 accepted(words[i], sheet, length, pattern);
             memset(sheet, 0, sizeof sheet);
         }
