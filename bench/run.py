@@ -4,8 +4,7 @@
 Builds the find program and the static library, runs both on the sheets of bench/sheets, on load sheets and on random sheets, checks
 each answer against bench/expected.txt where there is one, and prints per sheet and per family the time of the program, the microseconds
 per call in process and, where cvc5 and z3 are installed, their time on the same sheet in the same run and how many times longer that
-is; then whether a deep search runs on a small stack. Writes target/bench/times.png, a plot of time against the number of terms,
-where matplotlib is there.
+is. Writes target/bench/times.png, a plot of time against the number of terms, where matplotlib is there.
 """
 import argparse
 import pathlib
@@ -55,12 +54,6 @@ def ours(path, limit):
     if loop[0] != line:
         sys.exit(f"{path}: the program says {line}, the library {loop[0]}")
     return line, seconds, float(loop[1])
-
-
-def on_small_stack():
-    """What the program says of a sheet with a deep search on a stack of 1,000 KB."""
-    done = subprocess.run(["bash", "-c", "ulimit -s 1000 && exec target/bin/find"], input=sheets.deep_sheet(), capture_output=True)
-    return done.stdout.decode().split("\n")[0] or "no answer"
 
 
 def shown(seconds, limit):
@@ -117,7 +110,6 @@ def main():
         print(f"\n{title}: {len(names)}")
         for entry in names:
             print(f"  {entry}")
-    print(f"\na deep search on a stack of 1,000 KB: {on_small_stack()}")
     plot(rows, solvers, options.limit)
     sys.exit(bool(wrong))
 

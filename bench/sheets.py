@@ -64,6 +64,25 @@ def deep_sheet():
     return out + record(6, 48)
 
 
+def trade_sheet(*products):
+    """Sizes that trade off, in a deep search. For each n of the products, n pairs of codes of two sorts differ, so that their sizes multiply to n at
+    least: the first sort with the last, the second with the last but one, and so on. Further terms, cells over the first results, are free."""
+    last = 2 * len(products)
+    symbols, terms, literals = [], [], []
+    for s, n in enumerate(products):
+        at = len(terms)
+        terms += [[len(symbols) + i] for i in range(2 * n)]
+        symbols += [[s]] * n + [[last - 1 - s]] * n
+        terms += [[len(symbols), at + i, at + n + i] for i in range(n)]
+        symbols.append([last, s, last - 1 - s])
+        literals += [(at + 2 * n + i, at + 2 * n + j) for i in range(n) for j in range(i)]
+    while len(terms) < 128:
+        terms += [[len(symbols), 2 * products[0] + i] for i in range(products[0])]
+        symbols.append([last, last])
+    out = record(1, 1, 16) * last + record(1, 16, 16) + b"".join(record(2, *s) for s in symbols)
+    return out + b"".join(record(3, *t) for t in terms[:128]) + b"".join(record(5, a, b) for a, b in literals) + record(6, 128)
+
+
 def random_sheet(seed, sorts, terms, literals, differ):
     """A random sheet: constants, unary and binary symbols over random sorts, terms over earlier terms, statements of one sort."""
     rng = random.Random(seed)

@@ -88,8 +88,8 @@ X_F = field(1, 4) + name(0) + name(0, 0) + term(0) + term(1, 0)
 # fields 0 and 1, a name of each, and their expressions a and b: 6 + 6 + 5 + 5 + 5 + 5 = 32 bytes
 A_B = field(1, 4) * 2 + name(0) + name(1) + term(0) + term(1)
 END = total(16)
-# Sheets that are refused for what lies in their bytes. Of several faulty records the first decides; within a record, the lowest number; and the
-# place is where that record starts.
+# Sheets that are refused for what lies in their bytes. Of several faulty records the first decides; within a record, the lowest number; the place is
+# where that record starts.
 REFUSED = {
     "refused_01_empty": (b"", refused(1, 0)),
     # 4,097 bytes, though they begin with worked sheet 1

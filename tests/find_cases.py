@@ -93,13 +93,13 @@ LONGEST = field(1, 1) * 8 + name(0) + name(0, 0, 0) * 63 + b"".join(TERMS) + sam
 assert len(LONGEST) == 2161
 found("the longest sheet", LONGEST, [0] * 128, [[1] * 8] + [[0]] * 64, 72)
 
-# Refusals 1 to 9. Every refused sheet of examples/, with long buffers: not a byte of them changes. The sheet of 4,096 bytes is left out, since the
+# Refusals 1 to 9. Every refused sheet of examples/, with long buffers: not a byte of them changes. The sheet of 4,096 bytes is left out: the
 # program's input has no room for it.
 for stem, (sheet, output) in REFUSED.items():
     if stem != "refused_03_behind_total":
         unchanged(stem, sheet, MOST_BUFFER, MOST_BUFFER, output.rstrip("\n"))
-# Every sheet up to 1,000 bytes that read refuses: find refuses it likewise. Tables begin with the size of a field, so that a table buffer of no byte
-# is too short for any sheet; 10 comes after 1 to 9.
+# Every sheet up to 1,000 bytes that read refuses: find refuses it likewise. Tables begin with the size of a field, so that a table buffer of
+# no byte is too short for any sheet; 10 comes after 1 to 9.
 for sheet, answer in read_cases.cases:
     if answer != read_cases.ACCEPTED and len(sheet) <= 1000:
         unchanged("as read refuses it", sheet, 1, 0, answer)
