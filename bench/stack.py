@@ -14,8 +14,8 @@ sys.path.insert(0, "bench")
 import sheets  # noqa: E402
 
 OUT = pathlib.Path("target/bench")
-# The deepest chain of calls, and how often each function stands in it. The measure that each recursion is proved to lower starts at 128 in descend
-# (terms that are not decided) and at 8 * 15 in hunt (how far the greatest sizes lie above the least); pairs is called for three levels more.
+# The deepest chain of calls, and how often each function stands in it at most. A level of descend decides one of 128 terms more, a level of hunt raises
+# the sum of the lowest sizes of 8 sorts, which begins at 8 and ends at 128, and pairs looks at three levels of arguments more.
 CHAIN = {"find": 1, "sizes::hunt": 121, "sizes::look": 1, "solve::descend": 129, "propagate::propagate": 1, "crowd::pairs": 4, "crowd::values": 1}
 
 
