@@ -3,14 +3,13 @@ use Prim.Native.Nat.{ℕ, _≤_, _<_}
 use native.Mathlib.Decide.{decLt}
 use native.Mathlib.Omega.{arith}
 use mathlib.Core.Path.{_≡_, refl, ap, sym, _∙_}
-use mathlib.Core.Bool.{Bool, true, false}
 use mathlib.Core.Logic.{inl, inr}
 use mathlib.Core.List.{List}
 use lib.ListN.{length}
 use Rattle.logic.specs.Sheet.{Sheet}
 use Rattle.logic.specs.WellFormed.{WellFormed}
 use Rattle.logic.specs.Structure.{at}
-use Rattle.logic.specs.Problem.{Problem, Allowed, Consistent, Least, Unsatisfiable}
+use Rattle.logic.specs.Problem.{Least, Unsatisfiable}
 use Rattle.sheet.specs.Layout.{Reading, accepted, refused, reading}
 use Rattle.sheet.specs.Packed.{parsing, view}
 use Rattle.sheet.specs.Views.{Views}
@@ -25,13 +24,13 @@ use Rattle.tables.proofs.Whole.{packs-limited}
 use Rattle.tables.proofs.Tables.{extent-monotone}
 use Rattle.codes.specs.Searchable.{Searchable}
 use Rattle.finder.specs.Answer.{entryOf}
-use Rattle.finder.specs.Find.{Outcome, turnedDown, answered, outcome, finds, codesIn, tablesIn, ceilings, finding, codesAfter, tablesAfter, Finds}
-use Rattle.finder.specs.Fill.{Writable, AnswerWritten, ReadFrom}
+use Rattle.finder.specs.Find.{Outcome, turnedDown, answered, outcome, finds, codesIn, tablesIn, ceilings, Finds}
+use Rattle.finder.specs.Fill.{Writable, ReadFrom}
 use Rattle.finder.specs.declared.Finding.{Finding}
-use Rattle.finder.specs.declared.Finding.the-variants.{Found, Refused}
+use Rattle.finder.specs.declared.Finding.the-variants.{Refused}
 use Rattle.finder.proofs.Outcomes.{outcome-refused, outcome-short}
 use Rattle.finder.proofs.Joint.{well-sorted, outcome-none, outcome-least}
-use Rattle.finder.proofs.Buffers.{Exit, exit}
+use Rattle.finder.proofs.Buffers.{exit}
 
 -- what the outcome of a call makes of the result and the buffers
 pub outcome-finds :

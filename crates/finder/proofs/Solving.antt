@@ -16,29 +16,18 @@ use Rattle.logic.proofs.Meaning.{map-each}
 use Rattle.logic.proofs.Codes.{holds-same}
 use Rattle.sheet.specs.Layout.{if, sameList}
 use Rattle.sheet.proofs.Bools.{and-both}
+use Rattle.sheet.proofs.Growing.{sameList-same, same-sameList}
 use Rattle.tables.specs.Tests.{holds}
 use Rattle.tables.proofs.Tests.{decided, both-true, holds-true, holds-false}
 use Rattle.finder.specs.Answer.{Cell, cellOf, cellsFrom, reachedCells, agrees, functional, allHold, solves, cellAt}
 use Rattle.finder.proofs.Lists.{Mem}
-
-same-list : (xs ys : List ℕ) → sameList xs ys ≡ true → xs ≡ ys
-same-list [] [] e = refl
-same-list [] (y ∷ ys) e = absurd (false≢true e)
-same-list (x ∷ xs) [] e = absurd (false≢true e)
-same-list (x ∷ xs) (y ∷ ys) e =
-    let p : (eqb x y ≡ true) × (sameList xs ys ≡ true) = and-both (eqb x y) (sameList xs ys) e in
-    ap₂ (λ (a : ℕ) (l : List ℕ). a ∷ l) (eqb-true x y (p .0)) (same-list xs ys (p .1))
-
-list-same : (xs : List ℕ) → sameList xs xs ≡ true
-list-same [] = refl
-list-same (x ∷ xs) = both-true (eqb x x) (sameList xs xs) (eq-eqb x x refl) (list-same xs)
 
 -- two cells with one key hold one code
 abbrev Agreed : Cell → Cell → Type 0
 Agreed x y = x .key ≡ y .key → x .code ≡ y .code
 
 agreed : (k l : List ℕ) (a b : ℕ) → (not (sameList k l) || eqb a b) ≡ true → k ≡ l → a ≡ b
-agreed k l a b e p = eqb-true a b (step (sameList k l) (subst (λ (m : List ℕ). sameList k m ≡ true) p (list-same k)) e)
+agreed k l a b e p = eqb-true a b (step (sameList k l) (subst (λ (m : List ℕ). sameList k m ≡ true) p (same-sameList k)) e)
   where
     step : (s : Bool) → s ≡ true → (not s || eqb a b) ≡ true → eqb a b ≡ true
     step true t h = h
@@ -48,7 +37,7 @@ agreeing : (k l : List ℕ) (a b : ℕ) → (k ≡ l → a ≡ b) → (not (same
 agreeing k l a b h = step (sameList k l) refl
   where
     step : (s : Bool) → sameList k l ≡ s → (not s || eqb a b) ≡ true
-    step true t = eq-eqb a b (h (same-list k l t))
+    step true t = eq-eqb a b (h (sameList-same k l t))
     step false t = refl
 
 agrees-all : (x : Cell) (xs : List Cell) → agrees x xs ≡ true → (y : Cell) → Mem y xs → Agreed x y
@@ -210,7 +199,7 @@ kept key [] v e = let z : _≡_ {A = ℕ} 0 1 = cc in absurd (omega arith)
 kept key (x ∷ xs) v e = step (sameList (x .key) key) refl e (kept key xs v)
   where
     step : (b : Bool) → sameList (x .key) key ≡ b → if b (some (x .code)) (cellAt key xs) ≡ some v → (cellAt key xs ≡ some v → Kept key xs v) → Kept key (x ∷ xs) v
-    step true t f r = record { cell = x; member = inl refl; keyed = same-list (x .key) key t; coded = cc }
+    step true t f r = record { cell = x; member = inl refl; keyed = sameList-same (x .key) key t; coded = cc }
     step false t f r =
         let g : Kept key xs v = r f in
         record { cell = g .cell; member = inr (g .member); keyed = g .keyed; coded = g .coded }
@@ -222,7 +211,7 @@ not-kept key (y ∷ xs) e x m k = step (sameList (y .key) key) refl e m (not-kep
     step : (b : Bool) → sameList (y .key) key ≡ b → if b (some (y .code)) (cellAt key xs) ≡ none → Mem x (y ∷ xs) → (cellAt key xs ≡ none → (z : Cell) → Mem z xs → z .key ≡ key → ⊥) → ⊥
     step true t f n r = let z : _≡_ {A = ℕ} 0 1 = cc in omega arith
     step false t f (inl q) r =
-        false≢true (sym t ∙ subst (λ (l : List ℕ). sameList (y .key) l ≡ true) (sym (ap (λ (z : Cell). z .key) q) ∙ k) (list-same (y .key)))
+        false≢true (sym t ∙ subst (λ (l : List ℕ). sameList (y .key) l ≡ true) (sym (ap (λ (z : Cell). z .key) q) ∙ k) (same-sameList (y .key)))
     step false t f (inr q) r = r f x q k
 
 -- the term whose code a table holds at the codes xs

@@ -14,7 +14,7 @@ use Rattle.sheet.specs.declared.Parsed.{Parsed}
 use Rattle.tables.specs.Layout.{extent, encoded}
 use Rattle.tables.specs.Grid.{gridCell}
 use Rattle.tables.specs.Parts.{Packs}
-use Rattle.finder.specs.Answer.{Entry, entryOf, sum, structureOf}
+use Rattle.finder.specs.Answer.{entryOf, sum, structureOf}
 use Rattle.finder.specs.Find.{fronted}
 
 -- term i reaches the cell of symbol f in this row and column

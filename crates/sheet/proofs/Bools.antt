@@ -1,6 +1,11 @@
--- Tests joined by "and" and "or", taken apart.
+-- Tests joined by "and" and "or", taken apart; the test of a range.
+use Prim.Native.Nat.{ℕ}
 use mathlib.Core.Path.{_≡_, refl, sym}
 use mathlib.Core.Bool.{Bool, true, false, _&&_, _||_, true≢false}
+use lib.Dec.{leb}
+use borrow.Author.Tests.{leb-true, le-leb}
+use Rattle.logic.specs.WellFormed.{Within}
+use Rattle.sheet.specs.Layout.{within}
 
 pub and-both : (a b : Bool) → (a && b) ≡ true → (a ≡ true) × (b ≡ true)
 and-both true true e = (refl, refl)
@@ -26,3 +31,9 @@ or-fourth false false false d e = sym e
 pub and-no : (a b : Bool) → b ≡ false → (a && b) ≡ false
 and-no true b e = e
 and-no false b e = refl
+
+pub within-true : (lo hi n : ℕ) → within lo hi n ≡ true → Within lo hi n
+within-true lo hi n e = let b = and-both (leb lo n) (leb n hi) e in (leb-true lo n (b .0), leb-true n hi (b .1))
+
+pub true-within : (lo hi n : ℕ) → Within lo hi n → within lo hi n ≡ true
+true-within lo hi n h = rw (le-leb lo n (h .0), le-leb n hi (h .1))

@@ -7,14 +7,14 @@ use mathlib.Core.List.{List, [], _∷_, _++_, map, flatMap, append-nil, append-a
 use lib.ListN.{length, getD, take, drop, length-append, List·getD-append}
 use lib.Seq.{append-snoc, drop-append-add, take-append-seam, getD-append-seam, getD-append-add}
 use lib.Dec.{eqb}
-use borrow.Author.Tests.{le-ltb, le-leb, ne-eqb, eqb-true}
+use borrow.Author.Tests.{le-ltb, ne-eqb, eqb-true}
 use Rattle.logic.specs.Sheet.{Sheet, Bound, Symbol, Term, Literal, symbolAt, termAt, sortAt}
 use Rattle.logic.specs.Structure.{at}
 use Rattle.logic.specs.WellFormed.{Each, Within, WellFormed}
-use Rattle.sheet.specs.Layout.{Kind, kindOf, field, name, expression, same, total, if, rank, reached, misplaced, wrongLength, sameList, occurs, within, cause, add, lengthAt, kindAt, payloadAt, Reading, accepted, readFrom, reading, empty}
+use Rattle.sheet.specs.Layout.{Kind, kindOf, field, name, expression, same, total, if, rank, reached, misplaced, wrongLength, sameList, occurs, cause, add, lengthAt, kindAt, payloadAt, Reading, accepted, readFrom, reading, empty}
 use Rattle.sheet.specs.Encode.{packet, boundBytes, symbolBytes, termBytes, literalBytes, encode}
 use Rattle.sheet.specs.Parts.{later, faultAt}
-use Rattle.sheet.proofs.Bools.{and-both}
+use Rattle.sheet.proofs.Bools.{and-both, true-within}
 use Rattle.sheet.proofs.Longest.{few-arguments, encode-length, encode-longest}
 use Rattle.sheet.proofs.Steps.{not-cut}
 use Rattle.sheet.proofs.Causes.{placed-later, field-fine, name-fine, term-fine, literal-fine, total-fine}
@@ -110,9 +110,6 @@ entry {A = A} P all d each done todo a e =
 room : {A : Type 0} (n : ℕ) (all done todo : List A) (a : A) → length all ≤ n → all ≡ done ++ (a ∷ todo) → length done < n
 room n all done todo a h e = let m = ap length e ∙ length-append done (a ∷ todo) in omega arith
 
-within-true : (lo hi n : ℕ) → Within lo hi n → within lo hi n ≡ true
-within-true lo hi n h = rw (le-leb lo n (h .0), le-leb n hi (h .1))
-
 either : (lo hi : ℕ) (b : Bool) (x y : ℕ) → Within lo hi x → Within lo hi y → Within lo hi (if b x y)
 either lo hi true x y h h′ = h
 either lo hi false x y h h′ = h′
@@ -177,8 +174,8 @@ module _ (sh : Sheet) where
     bound-good done todo b e =
         no-cause (sortsRead done) 1 (b .floor ∷ b .ceiling ∷ []) (first done) refl
         (field-fine (sortsRead done) (b .floor) (b .ceiling) (room 8 (sh .bounds) done todo b (w .sorts .1) e)
-        (within-true 1 16 (b .floor) (entry (λ i c. Within 1 16 (c .floor)) (sh .bounds) _ (w .floor) done todo b e))
-        (within-true 1 16 (b .ceiling) (entry (λ i c. Within 1 16 (c .ceiling)) (sh .bounds) _ (w .ceiling) done todo b e)))
+        (true-within 1 16 (b .floor) (entry (λ i c. Within 1 16 (c .floor)) (sh .bounds) _ (w .floor) done todo b e))
+        (true-within 1 16 (b .ceiling) (entry (λ i c. Within 1 16 (c .ceiling)) (sh .bounds) _ (w .ceiling) done todo b e)))
       where
         first : (done : List Bound) → false ≡ misplaced (sortsRead done) field
         first [] = refl

@@ -6,15 +6,15 @@ use mathlib.Core.Bool.{Bool, true, false, _&&_, true≢false}
 use mathlib.Core.List.{List, [], _∷_, _++_, map}
 use lib.ListN.{length, getD, length-append, List·getD-append}
 use lib.Seq.{getD-append-seam}
-use lib.Dec.{leb, ltb, eqb}
-use borrow.Author.Tests.{ltb-true, ltb-false, leb-true, leb-false, eqb-true, not-false, eq-eqb}
+use lib.Dec.{ltb, eqb}
+use borrow.Author.Tests.{ltb-true, ltb-false, leb-false, eqb-true, not-false, eq-eqb}
 use Rattle.logic.specs.Sheet.{Sheet, Bound, Symbol, Term, Literal, symbolAt, termAt, sortAt}
 use Rattle.logic.specs.WellFormed.{Each, Within}
 use Rattle.sheet.specs.Layout.{Kind, kindOf, field, name, expression, same, differ, total, if, rank, reached, misplaced, wrongLength, shortest, longest, all, within, sameList, occurs, cause, add, addBound, addSymbol, addTerm, addLiteral, withTotal, empty}
 use Rattle.sheet.specs.SoFar.{SoFar}
 use Rattle.sheet.specs.Parts.{later}
 use Rattle.sheet.proofs.Causes.{Placed, placed, Clear, clear, no-literals, no-terms, no-symbols}
-use Rattle.sheet.proofs.Bools.{and-both, or-both}
+use Rattle.sheet.proofs.Bools.{and-both, or-both, within-true}
 use Rattle.sheet.proofs.Pairs.{all-below, each-weaken, map-below}
 
 -- what holds of each entry of a list, and of one more at its end
@@ -51,9 +51,6 @@ not-there t (u ∷ ts) d e zero h z =
 not-there t (u ∷ ts) d e (suc i) h z =
     not-there t ts d (or-both (eqb (u .symbol) (t .symbol) && sameList (u .args) (t .args)) (occurs (t .symbol) (t .args) ts) e .1) i (omega arith) z
 
-in-range : (lo hi n : ℕ) → within lo hi n ≡ true → Within lo hi n
-in-range lo hi n e = let h = and-both (leb lo n) (leb n hi) e in (leb-true lo n (h .0), leb-true n hi (h .1))
-
 one-more : {A : Type 0} (l : List A) (a : A) → length (l ++ (a ∷ [])) ≡ length l + 1
 one-more l a = length-append l (a ∷ [])
 
@@ -83,10 +80,10 @@ module _ (sh : Sheet) (so : SoFar sh) where
         terms = so .terms;
         literals = so .literals;
         total = so .total;
-        floor = more (λ i e. Within 1 16 (e .floor)) (sh .bounds) b (record { floor = 0; ceiling = 0 }) (so .floor) (in-range 1 16 x (range .0));
+        floor = more (λ i e. Within 1 16 (e .floor)) (sh .bounds) b (record { floor = 0; ceiling = 0 }) (so .floor) (within-true 1 16 x (range .0));
         ceiling =
             more (λ i e. Within 1 16 (e .ceiling)) (sh .bounds) b (record { floor = 0; ceiling = 0 }) (so .ceiling)
-            (in-range 1 16 y (and-both (within 1 16 y) true (range .1) .0));
+            (within-true 1 16 y (and-both (within 1 16 y) true (range .1) .0));
         result = λ f h. absurd (omega arith);
         params = λ f h. absurd (omega arith);
         arity = so .arity;
@@ -212,7 +209,7 @@ module _ (sh : Sheet) (so : SoFar sh) where
 
   grow-total : (x : ℕ) → Placed sh total → Clear sh total (x ∷ []) → SoFar (withTotal sh x)
   grow-total x p c =
-      let range = in-range 1 128 x (and-both (within 1 128 x) true (not-false (within 1 128 x && true) (c .range)) .0) in
+      let range = within-true 1 128 x (and-both (within 1 128 x) true (not-false (within 1 128 x && true) (c .range)) .0) in
       record {
         begun = λ h. begun-later total p (omega arith);
         sorts = so .sorts;
@@ -235,7 +232,7 @@ module _ (sh : Sheet) (so : SoFar sh) where
       }
 
 pub total-least : (sh : Sheet) (x : ℕ) → Clear sh total (x ∷ []) → 1 ≤ x
-total-least sh x c = in-range 1 128 x (and-both (within 1 128 x) true (not-false (within 1 128 x && true) (c .range)) .0) .0
+total-least sh x c = within-true 1 128 x (and-both (within 1 128 x) true (not-false (within 1 128 x && true) (c .range)) .0) .0
 
 -- none of the causes 3 to 8 applies
 pub record Fine (sh : Sheet) (k : ℕ) (p : List ℕ) : Type 0 where

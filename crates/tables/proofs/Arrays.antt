@@ -1,5 +1,5 @@
 -- What the loops of judge keep, over the arrays of a parsed sheet.
-use Prim.Native.Nat.{ℕ, zero, suc, _+_, _*_, _≤_, _<_}
+use Prim.Native.Nat.{ℕ, _+_, _*_, _≤_, _<_}
 use native.Mathlib.Nat.{not-suc-le-zero, mul-le-mul, mul-one}
 use native.Mathlib.Numerals.{add-one}
 use native.Mathlib.Decide.{decLt}
@@ -22,7 +22,7 @@ use Rattle.sheet.specs.Layout.{within}
 use Rattle.sheet.specs.Packed.{packed, view, first, second, bit}
 use Rattle.sheet.specs.Views.{Views}
 use Rattle.sheet.specs.declared.Parsed.{Parsed}
-use Rattle.sheet.proofs.Bools.{and-no}
+use Rattle.sheet.proofs.Bools.{and-no, true-within}
 use Rattle.sheet.proofs.Pairs.{each-weaken}
 use Rattle.sheet.proofs.View.{at-pad-map, packed-views}
 use Rattle.tables.specs.Layout.{cells, place, offset, decoded}
@@ -31,7 +31,7 @@ use Rattle.tables.specs.declared.Judgement.the-variants.{Fits, Broken}
 use Rattle.tables.proofs.Laid.{statements-fit, statements-broken}
 use Rattle.tables.specs.Parts.{Packs, mostCells, mostBytes, width, CellsOf, Small, Extents, Laying}
 use Rattle.tables.proofs.Cells.{cells-same, place-same}
-use Rattle.tables.proofs.Tests.{every-more, false-every, and-first, true-within}
+use Rattle.tables.proofs.Tests.{every-more, false-every, and-first}
 
 -- two bytes multiply to no more than two sizes may
 pub product-small : (a b : ℕ) → a < 256 → b < 256 → a * b ≤ mostCells

@@ -1,4 +1,4 @@
--- Tests and what they say: a conjunction, a test of all numbers below one, a range, a statement.
+-- Tests and what they say: a conjunction, a test of all numbers below one, a statement.
 use Prim.Native.Nat.{ℕ, zero, suc, _+_, _<_}
 use native.Mathlib.Nat.{not-suc-le-zero}
 use native.Mathlib.Numerals.{add-one}
@@ -7,12 +7,10 @@ use native.Mathlib.Omega.{arith}
 use mathlib.Core.Path.{_≡_, refl, sym, _∙_, subst}
 use mathlib.Core.Bool.{Bool, true, false, _&&_, true≢false}
 use mathlib.Core.Logic.{_⊎_, inl, inr}
-use lib.Dec.{leb, eqb}
-use borrow.Author.Tests.{leb-true, le-leb, eqb-true, eqb-false, not-true, not-false}
+use lib.Dec.{eqb}
+use borrow.Author.Tests.{eqb-true, eqb-false, not-true, not-false}
 use Rattle.logic.specs.Sheet.{Literal}
 use Rattle.logic.specs.Structure.{Agree, Holds}
-use Rattle.logic.specs.WellFormed.{Within}
-use Rattle.sheet.specs.Layout.{within}
 use Rattle.sheet.proofs.Bools.{and-both, and-no}
 use Rattle.tables.specs.Tests.{every, agree, holds}
 
@@ -59,12 +57,6 @@ every-more n p e f = rw (add-one n) (both-true (every n p) (p n) e f)
 pub every-same : (n : ℕ) (p q : ℕ → Bool) → ((i : ℕ) → i < n → p i ≡ q i) → every n p ≡ every n q
 every-same zero p q h = refl
 every-same (suc n) p q h = cc (every-same n p q (λ i l. h i (omega arith)), h n (omega arith))
-
-pub within-true : (lo hi n : ℕ) → within lo hi n ≡ true → Within lo hi n
-within-true lo hi n e = let b = and-both (leb lo n) (leb n hi) e in (leb-true lo n (b .0), leb-true n hi (b .1))
-
-pub true-within : (lo hi n : ℕ) → Within lo hi n → within lo hi n ≡ true
-true-within lo hi n h = both-true (leb lo n) (leb n hi) (le-leb lo n (h .0)) (le-leb n hi (h .1))
 
 agree-true : (b : Bool) (x y : ℕ) → agree b (eqb x y) ≡ true → Agree b x y
 agree-true true x y e = eqb-true x y e

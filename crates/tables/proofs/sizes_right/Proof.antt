@@ -10,7 +10,8 @@ use Rattle.sheet.specs.Layout.{within}
 use Rattle.sheet.proofs.Bools.{and-no}
 use Rattle.tables.specs.Tests.{every}
 use borrow.Author.Tests.{lt-leb, le-leb}
-use Rattle.tables.proofs.Tests.{both-true, and-first, false-every, every-more, true-within}
+use Rattle.sheet.proofs.Bools.{true-within}
+use Rattle.tables.proofs.Tests.{both-true, and-first, false-every, every-more}
 use borrow.Author.Needs.{needs}
 use Rattle.tables.proofs.sizes_right.Statement.{statement}
 use Rattle.tables.proofs.sizes_right.Tie as tie
