@@ -3,7 +3,7 @@ use Prim.Native.Nat.{ℕ, _≤_, _<_}
 use native.Mathlib.Omega.{arith}
 use mathlib.Core.Path.{_≡_, refl, ap, sym, _∙_}
 use mathlib.Core.Bool.{Bool, true, false, false≢true}
-use mathlib.Core.Logic.{_↔_}
+use mathlib.Core.Logic.{_⊎_, inl, inr, _↔_}
 use mathlib.Core.List.{List}
 use lib.ListN.{length}
 use borrow.Author.Tests.{ltb-true, lt-ltb, le-ltb, eq-eqb, ne-eqb}
@@ -33,6 +33,20 @@ refused-reply s a b p e nonzero = go (reading s) refl
     go : (R : Reading) → reading s ≡ R → Refused (p .number) (p .place) ≡ forcing (reading s) a b
     go (accepted sh) h = absurd (nonzero (ap (λ (x : Parsing). x .number) (e ∙ ap parsing h)))
     go (refused n i) h = ap (λ (x : Parsing). Refused (x .number) (x .place)) (e ∙ ap parsing h) ∙ sym (ap (λ (R : Reading). forcing R a b) h)
+
+-- forced refuses with the number of a refused sheet, or with 13
+pub refusal-number : (s : List ℕ) (a b n i : ℕ) → answer s a b ≡ Refused n i → (n ≤ 9) ⊎ (n ≡ 13)
+unfolding answer
+refusal-number s a b n i e = by (reading s) refl e
+  where
+    replied : (c t : Bool) → if c (if t Yes No) (Refused 13 0) ≡ Refused n i → (n ≤ 9) ⊎ (n ≡ 13)
+    replied true true z = let never : _≡_ {A = ℕ} 0 1 = cc in absurd (omega arith)
+    replied true false z = let never : _≡_ {A = ℕ} 0 1 = cc in absurd (omega arith)
+    replied false t z = inr cc
+
+    by : (R : Reading) → reading s ≡ R → forcing R a b ≡ Refused n i → (n ≤ 9) ⊎ (n ≡ 13)
+    by (accepted sh) q z = replied (comparable sh a b) (together sh a b) z
+    by (refused m j) q z = let same : m ≡ n = cc in inl (omega (arith, refused-number s m j q))
 
 -- an accepted sheet
 pub accepted-parsing : (s : List ℕ) (p : Parsing) → p ≡ parsing (reading s) → p .number ≡ 0 → (sh : Sheet) × (reading s ≡ accepted sh) × (p .sheet ≡ packed sh)

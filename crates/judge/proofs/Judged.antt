@@ -1,22 +1,23 @@
 -- Demand 2 for judge: its reply is the true one, and the only true one (`Says` of specs/Judge.antt).
-use Prim.Native.Nat.{ℕ, _+_}
+use Prim.Native.Nat.{ℕ, _+_, _≤_}
 use native.Mathlib.Decide.{decLt}
 use native.Mathlib.Omega.{arith}
 use mathlib.Core.Path.{_≡_, refl, ap, ap₂, sym, _∙_, subst}
 use mathlib.Core.Bool.{Bool, true, false}
-use mathlib.Core.Logic.{inl, inr, _↔_}
+use mathlib.Core.Logic.{_⊎_, inl, inr, _↔_}
 use mathlib.Core.List.{List}
 use lib.ListN.{length}
 use Rattle.logic.specs.Sheet.{Sheet, Literal, literalAt}
 use Rattle.logic.specs.Structure.{at, code, Bounded}
-use Rattle.sheet.specs.Layout.{accepted, refused, reading, if}
+use Rattle.sheet.specs.Layout.{Reading, accepted, refused, reading, if}
+use Rattle.sheet.proofs.Answers.{refused-number}
 use Rattle.tables.specs.declared.Judgement.{Judgement}
 use Rattle.tables.specs.declared.Judgement.the-variants.{Fits, OutOfBounds, Broken, Refused}
 use Rattle.tables.specs.Layout.{decoded, WellLaid}
 use Rattle.tables.specs.Tests.{wellLaid, inBounds, holds, statements}
 use Rattle.tables.proofs.Tests.{decided, true-not-false, holds-true, holds-false}
 use Rattle.tables.proofs.Laid.{well-laid-test, in-bounds-test, first-failing, statements-fit, statements-broken, laid-interprets}
-use Rattle.judge.specs.Judge.{judged, judgement, Says}
+use Rattle.judge.specs.Judge.{judged, judgedOf, judgement, Says}
 
 module _ (sh : Sheet) (t : List ℕ) where
   -- the codes that the tables give the terms
@@ -103,3 +104,12 @@ judgement-refused s t n i e = rw e refl
 pub judgement-says : (s t : List ℕ) (sh : Sheet) → reading s ≡ accepted sh → (j : Judgement) → (judgement s t ≡ j) ↔ Says sh t j
 unfolding judgement
 judgement-says s t sh e j = rw e (judged-says sh t j)
+
+-- judge refuses with the number of a refused sheet, or with 12
+pub judgement-number : (s t : List ℕ) (n i : ℕ) → judgement s t ≡ Refused n i → (n ≤ 9) ⊎ (n ≡ 12)
+unfolding judgement
+judgement-number s t n i e = by (reading s) refl e
+  where
+    by : (R : Reading) → reading s ≡ R → judgedOf R t ≡ Refused n i → (n ≤ 9) ⊎ (n ≡ 12)
+    by (accepted sh) q z = inr (judged-says sh t (Refused n i) .0 z .0)
+    by (refused m j) q z = let same : m ≡ n = cc in inl (omega (arith, refused-number s m j q))
