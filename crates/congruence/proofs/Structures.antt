@@ -12,7 +12,7 @@ use Rattle.logic.specs.Sheet.{Sheet, symbolAt, termAt, literalAt, sortAt}
 use Rattle.logic.specs.Structure.{Structure, Interprets, SatisfiesSame, Agree, code}
 use Rattle.logic.specs.WellFormed.{Each, WellFormed}
 use Rattle.logic.specs.Problem.{Problem}
-use Rattle.logic.proofs.Meaning.{code-congruent, codes-own}
+use Rattle.logic.proofs.Meaning.{code-congruent, codes-own, few-arguments}
 use Rattle.sheet.specs.Packed.{first, second, bit}
 use Rattle.sheet.specs.Views.{Views}
 use Rattle.sheet.proofs.Pairs.{each-weaken}
@@ -78,7 +78,7 @@ module _ (sh : Sheet) (w : WellFormed sh) (P : Problem) (v : Views sh P) where
       let ei = sym (length-map (termAt sh i .args) (sortAt sh)) ∙ ap length (w .argSorts i bi) in
       let ej = sym (length-map (termAt sh j .args) (sortAt sh)) ∙ ap length (w .argSorts j bj) in
       let same = ap (λ f. length (symbolAt sh f .params)) e in
-      (ei ∙ same ∙ sym ej, omega (arith, w .arity (termAt sh i .symbol) (w .symbol i bi)))
+      (ei ∙ same ∙ sym ej, few-arguments sh w i bi)
 
   -- the codes of a structure that satisfies the same statements are a model
   codes-model : (M : Structure) → SatisfiesSame M sh → Models P (code M sh)

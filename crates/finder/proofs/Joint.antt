@@ -13,7 +13,7 @@ use Rattle.logic.specs.WellFormed.{WellFormed, Each}
 use Rattle.logic.specs.Structure.{at, sumTo, Bounded, Agree}
 use Rattle.logic.specs.Order.{Before, firsts, NotAfter}
 use Rattle.logic.specs.Problem.{Problem, WellSorted, Allowed, Consistent, Unsatisfiable, Least}
-use Rattle.logic.proofs.Meaning.{length-firsts, at-firsts, firsts-same, sumTo-same}
+use Rattle.logic.proofs.Meaning.{length-firsts, at-firsts, firsts-same, sumTo-same, few-arguments}
 use Rattle.logic.proofs.OrderLaws.{not-after}
 use Rattle.sheet.specs.Packed.{first, second, bit}
 use Rattle.sheet.specs.Views.{Views}
@@ -73,10 +73,6 @@ module _ (sh : Sheet) (P : Problem) (w : WellFormed sh) (v : Views sh P) where
   same-arity : (i j : ℕ) → i < P .terms → j < P .terms → P .symbol i ≡ P .symbol j → length (termAt sh i .args) ≡ length (termAt sh j .args)
   same-arity i j h k e =
       sym (length-map (termAt sh i .args) (sortAt sh)) ∙ ap length (same-sorts i j h k e) ∙ length-map (termAt sh j .args) (sortAt sh)
-
-  arity : (i : ℕ) → i < P .terms → length (termAt sh i .args) ≤ 2
-  arity i h =
-      omega (arith, length-map (termAt sh i .args) (sortAt sh), ap length (w .argSorts i (there i h)), w .arity (termAt sh i .symbol) (w .symbol i (there i h)))
 
   -- what holds of the argument at place k, x i being that of term i
   module _ (k : ℕ) (x : ℕ → ℕ) (is : (i : ℕ) → i < length (sh .terms) → x i ≡ argument (termAt sh i .args) k) where
@@ -171,7 +167,7 @@ module _ (sh : Sheet) (P : Problem) (w : WellFormed sh) (v : Views sh P) where
         none = λ i h. past i (omega (arith, v .terms));
         congruent = λ i j h l p q r.
             f .solution .congruent i j (there i h) (there j l) (same-symbol i j h l p)
-            (same-map c (termAt sh i .args) (termAt sh j .args) (same-arity i j h l p) (arity i h)
+            (same-map c (termAt sh i .args) (termAt sh j .args) (same-arity i j h l p) (few-arguments sh w i (there i h))
             (sym (ap c (v .arg0 i (there i h))) ∙ q ∙ ap c (v .arg0 j (there j l)))
             (sym (ap c (v .arg1 i (there i h))) ∙ r ∙ ap c (v .arg1 j (there j l))));
         same = λ k h e.

@@ -1,21 +1,22 @@
 -- The table that the code fills holds, cell by cell, what the structure of the answer holds.
 use Prim.Native.Nat.{ℕ, zero, suc, _+_, _≤_, _<_}
 use native.Mathlib.Omega.{arith}
-use mathlib.Core.Path.{_≡_, refl, ap, ap₂, sym, _∙_, subst}
+use mathlib.Core.Path.{_≡_, refl, ap, ap₂, sym, _∙_}
 use mathlib.Core.Bool.{Bool, true, false, _&&_}
 use mathlib.Core.List.{List, [], _∷_, map}
-use mathlib.Core.Option.{Option, none, some, Option·getD}
+use mathlib.Core.Option.{Option, some, Option·getD}
 use lib.ListN.{length, getD, drop, length-map, drop-of-length-le}
 use lib.Seq.{drop-cons}
 use lib.Dec.{eqb}
 use borrow.Author.Tests.{eqb-true}
-use Rattle.logic.specs.Sheet.{Sheet, Symbol, Term, symbolAt, termAt, sortAt}
+use Rattle.logic.specs.Sheet.{Sheet, Term, symbolAt, termAt, sortAt}
 use Rattle.logic.specs.WellFormed.{WellFormed}
 use Rattle.logic.specs.Problem.{Problem}
+use Rattle.logic.proofs.Meaning.{few-arguments}
 use Rattle.sheet.specs.Layout.{if, sameList}
 use Rattle.sheet.specs.Packed.{first, second}
 use Rattle.sheet.specs.Views.{Views}
-use Rattle.finder.specs.Answer.{Cell, cellOf, cellsFrom, cellAt}
+use Rattle.finder.specs.Answer.{cellsFrom, cellAt}
 use Rattle.finder.specs.Fill.{reaches, held}
 
 -- row and column of a cell
@@ -56,10 +57,6 @@ module _ (sh : Sheet) (P : Problem) (w : WellFormed sh) (v : Views sh P) (c : �
       ∙ ap (λ (g : ℕ). length (symbolAt sh g .params)) e
       ∙ sym full
 
-  at-most-two : (i : ℕ) → i < length (sh .terms) → length (termAt sh i .args) ≤ 2
-  at-most-two i h =
-      omega (arith, length-map (termAt sh i .args) (sortAt sh), ap length (w .argSorts i h), w .arity (termAt sh i .symbol) (w .symbol i h))
-
   -- the test of the key and the test by row and column
   same-test : (i : ℕ) → i < length (sh .terms) → sameList (termAt sh i .symbol ∷ map c (termAt sh i .args)) (f ∷ xs) ≡ reaches P c f (rowOf xs) (columnOf xs) i
   same-test i h =
@@ -72,7 +69,7 @@ module _ (sh : Sheet) (P : Problem) (w : WellFormed sh) (v : Views sh P) (c : �
           ≡ (eqb (termAt sh i .symbol) f && (eqb (c (first (termAt sh i .args))) (rowOf xs) && eqb (c (second (termAt sh i .args))) (columnOf xs)))
       by true e =
           ap (λ (t : Bool). eqb (termAt sh i .symbol) f && t)
-          (by-place c past (termAt sh i .args) xs (as-many i h (eqb-true (termAt sh i .symbol) f e)) (at-most-two i h))
+          (by-place c past (termAt sh i .args) xs (as-many i h (eqb-true (termAt sh i .symbol) f e)) (few-arguments sh w i h))
       by false e = rw e
 
   -- the first of the last n terms that reaches the cell

@@ -13,7 +13,7 @@ use Rattle.forced.specs.declared.Forcing.the-variants.{Yes, No}
 use Rattle.forced.specs.Answer.{comparable, answer}
 
 -- a record to a line: a field, two names, their expressions, the total
-unfoldable pub two-bytes : List ℕ
+two-bytes : List ℕ
 two-bytes =
     2 ∷ 0 ∷ 1 ∷ 0 ∷ 1 ∷ 1
     ∷ 1 ∷ 0 ∷ 2 ∷ 0 ∷ 0
@@ -22,7 +22,7 @@ two-bytes =
     ∷ 1 ∷ 0 ∷ 3 ∷ 0 ∷ 1
     ∷ 1 ∷ 0 ∷ 6 ∷ 0 ∷ 1 ∷ []
 
-abbrev pub two : Sheet
+abbrev two : Sheet
 two =
     record {
       bounds = record { floor = 1; ceiling = 1 } ∷ [];
@@ -32,7 +32,7 @@ two =
       total = 1;
     }
 
-pub reads-two : reading two-bytes ≡ accepted two
+reads-two : reading two-bytes ≡ accepted two
 unfolding two-bytes reading readFrom cause
 reads-two = refl
 

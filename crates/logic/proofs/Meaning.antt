@@ -1,9 +1,9 @@
 -- The codes of terms under a structure: a term's code is its symbol's table at the codes of its arguments, it lies in range, and codes
 -- with this property are the structure's own. With the first values of functions as lists.
-use Prim.Native.Nat.{ℕ, zero, suc, _+_, _<_}
+use Prim.Native.Nat.{ℕ, zero, suc, _+_, _≤_, _<_}
 use mathlib.Core.Path.{_≡_, refl, ap, ap₂, sym, _∙_, subst}
 use mathlib.Core.List.{List, [], _∷_, _++_, map}
-use lib.ListN.{length, getD, length-append, List·getD-append}
+use lib.ListN.{length, getD, length-append, length-map, List·getD-append}
 use lib.Seq.{getD-append-seam, ext-getD}
 use native.Mathlib.Decide.{decLt}
 use native.Mathlib.Omega.{arith}
@@ -86,6 +86,11 @@ code-is M sh w i h = codesFrom-at M [] (sh .terms) i i h (omega arith) (w .args 
 args-in-sorts : (size c sort : ℕ → ℕ) (i : ℕ) → ((a : ℕ) → a < i → c a < size (sort a)) → (l : List ℕ) → Each (λ a. a < i) l → InSorts size (map sort l) (map c l)
 args-in-sorts size c sort i h [] e = tt
 args-in-sorts size c sort i h (a ∷ l) e = (h a (e .0), args-in-sorts size c sort i h l (e .1))
+
+-- a term has at most two arguments
+pub few-arguments : (sh : Sheet) → WellFormed sh → (i : ℕ) → i < length (sh .terms) → length (termAt sh i .args) ≤ 2
+few-arguments sh w i h =
+    omega (arith, length-map (termAt sh i .args) (sortAt sh), ap length (w .argSorts i h), w .arity (termAt sh i .symbol) (w .symbol i h))
 
 -- the codes of a term's arguments lie in the sorts that its symbol takes, where the codes of earlier terms are in range
 pub arguments-in-sorts : (sh : Sheet) → WellFormed sh → (size c : ℕ → ℕ) (i : ℕ) → i < length (sh .terms) → ((a : ℕ) → a < i → c a < size (sortAt sh a)) → InSorts size (symbolAt sh (termAt sh i .symbol) .params) (map c (termAt sh i .args))

@@ -11,11 +11,12 @@ use borrow.Author.Tests.{le-ltb, ne-eqb, eqb-true}
 use Rattle.logic.specs.Sheet.{Sheet, Bound, Symbol, Term, Literal, symbolAt, termAt, sortAt}
 use Rattle.logic.specs.Structure.{at}
 use Rattle.logic.specs.WellFormed.{Each, Within, WellFormed}
+use Rattle.logic.proofs.Meaning.{few-arguments}
 use Rattle.sheet.specs.Layout.{Kind, kindOf, field, name, expression, same, total, if, rank, reached, misplaced, wrongLength, sameList, occurs, cause, add, lengthAt, kindAt, payloadAt, Reading, accepted, readFrom, reading, empty}
 use Rattle.sheet.specs.Encode.{packet, boundBytes, symbolBytes, termBytes, literalBytes, encode}
 use Rattle.sheet.specs.Parts.{later, faultAt}
 use Rattle.sheet.proofs.Bools.{and-both, true-within}
-use Rattle.sheet.proofs.Longest.{few-arguments, encode-length, encode-longest}
+use Rattle.sheet.proofs.Longest.{encode-length, encode-longest}
 use Rattle.sheet.proofs.Steps.{not-cut}
 use Rattle.sheet.proofs.Causes.{placed-later, field-fine, name-fine, term-fine, literal-fine, total-fine}
 use Rattle.sheet.proofs.Pairs.{below-all, map-below}

@@ -5,10 +5,11 @@ use native.Mathlib.Omega.{arith}
 use mathlib.Core.Path.{_≡_, refl, ap, sym, _∙_}
 use mathlib.Core.Bool.{true}
 use mathlib.Core.List.{List, [], _∷_, map, flatMap}
-use lib.ListN.{length, getD, replicate, length-append, length-map}
+use lib.ListN.{length, getD, replicate, length-append}
 use Rattle.logic.specs.Sheet.{Sheet, Symbol, Term, termAt, sortAt}
 use Rattle.logic.specs.Order.{firsts}
 use Rattle.logic.specs.WellFormed.{Each, WellFormed}
+use Rattle.logic.proofs.Meaning.{few-arguments}
 use Rattle.sheet.specs.Layout.{accepted, cause, readFrom, reading}
 use Rattle.sheet.specs.Encode.{boundBytes, symbolBytes, termBytes, literalBytes, encode}
 
@@ -48,13 +49,6 @@ module _ (sh : Sheet) (w : WellFormed sh) where
       go [] e = refl
       go (x ∷ l) e = let z = e .0 in absurd (omega arith)
 
-  pub few-arguments : (i : ℕ) → i < length (sh .terms) → length (termAt sh i .args) ≤ 2
-  few-arguments i h =
-      let a = w .arity (termAt sh i .symbol) (w .symbol i h) in
-      let m = length-map (termAt sh i .args) (sortAt sh) in
-      let e = ap length (w .argSorts i h) in
-      omega arith
-
   -- neither the first term nor its symbol takes an argument, so two bytes are missing twice
   pub encode-longest : length (encode sh) ≤ 2161
   encode-longest = go (length (sh .terms)) refl
@@ -69,7 +63,7 @@ module _ (sh : Sheet) (w : WellFormed sh) where
       short-symbols f h = let a = w .arity f h in omega arith
 
       short-terms : (i : ℕ) → i < length (sh .terms) → length (termBytes (getD (sh .terms) i term′)) ≤ 7
-      short-terms i h = let a = few-arguments i h in omega arith
+      short-terms i h = let a = few-arguments sh w i h in omega arith
 
       bounds : length (flatMap boundBytes (sh .bounds)) ≤ 6 * length (sh .bounds)
       bounds = flat-most 6 boundBytes (record { floor = 0; ceiling = 0 }) (sh .bounds) (λ s h. omega arith)
