@@ -1,5 +1,7 @@
 """The same sheet for cvc5 (finite model finding over uninterpreted sorts) and for z3 (codes as numbers below a size): the smallest
 sum of sizes, by asking for one sum after the other."""
+import re
+import shutil
 import subprocess
 import threading
 import time
@@ -48,29 +50,47 @@ def sum_bound(sheet, n):
     return f"(assert (<= {names[0] if len(names) == 1 else '(+ ' + ' '.join(names) + ')'} {n}))"
 
 
+# options, text of a sheet, and whether the sums are asked for incrementally: z3 was faster afresh on most sheets that were tried both ways
 SOLVERS = {
-    "cvc5": (["cvc5", "--incremental", "--finite-model-find", "--lang=smt2", "-q"], cvc5_text),
-    "z3": (["z3", "-in", "-smt2"], z3_text),
+    "cvc5": (["--incremental", "--finite-model-find", "--lang=smt2", "-q"], cvc5_text, True),
+    "z3": (["-in", "-smt2"], z3_text, False),
 }
 
 
-def smallest_sum(solver, sheet, limit):
+def programs(folder):
+    """The solvers of this machine, each with its program: the one that is installed or, where z3 has its library only, one built on it in the folder."""
+    found = {solver: shutil.which(solver) for solver in SOLVERS}
+    build = ["cc", "-O2", "-o", folder / "z3", "bench/z3.c", "-lz3"]
+    if not found["z3"] and subprocess.run(build, stderr=subprocess.DEVNULL).returncode == 0:
+        found["z3"] = str(folder / "z3")
+    return {solver: program for solver, program in found.items() if program}
+
+
+def version(program):
+    text = subprocess.run([program, "--version"], capture_output=True, text=True).stdout
+    number = re.search(r"\d+(\.\d+)+", text)
+    return number.group() if number else "of an unknown version"
+
+
+def smallest_sum(solver, program, sheet, limit):
     """The first line that find would print, or None where the limit was hit; and the seconds that it took."""
-    command, text = SOLVERS[solver]
+    options, text_of, incremental = SOLVERS[solver]
+    text = "\n".join(text_of(sheet)) + "\n"
+    once, before, behind = (text, "(push 1)\n", "(pop 1)\n") if incremental else ("", text, "(reset)\n")
     least = sum(b[0] for b in sheet.bounds)
     most = min(sheet.total, sum(b[1] for b in sheet.bounds))
     started = time.monotonic()
     if least > most or any(floor > ceiling for floor, ceiling in sheet.bounds):
         return "refused 11 0", 0.0
-    process = subprocess.Popen(command, stdin=subprocess.PIPE, stdout=subprocess.PIPE, stderr=subprocess.DEVNULL, text=True)
+    process = subprocess.Popen([program, *options], stdin=subprocess.PIPE, stdout=subprocess.PIPE, stderr=subprocess.DEVNULL, text=True)
     timer = threading.Timer(limit, process.kill)
     timer.start()
     answer = None
     try:
-        process.stdin.write("\n".join(text(sheet)) + "\n")
+        process.stdin.write(once)
         # nothing at the most: none at all, so that an unsatisfiable sheet is not asked for each sum in turn
         for n in [most, *range(least, most + 1)]:
-            process.stdin.write(f"(push 1)\n{sum_bound(sheet, n)}\n(check-sat)\n(pop 1)\n")
+            process.stdin.write(f"{before}{sum_bound(sheet, n)}\n(check-sat)\n{behind}")
             process.stdin.flush()
             reply = process.stdout.readline().strip()
             if reply == "unsat" and n == most:

@@ -1,13 +1,13 @@
 #!/usr/bin/env bash
 # Builds the C and C++ programs of the gateway on the archive of this tree, and compares what they print: the courier on every sheet of examples/ with
-# what the find program's expected output says, the guard's calls with guard bytes around every buffer, and two calls from C++. Run from the
-# repository's top.
+# what the find program's expected output says, every find and judge question of tests/cases and the guard's own calls with guard bytes around every
+# buffer, and two calls from C++. Run from the repository's top.
 set -u
 rt staticlib gateway >target/gateway.log 2>&1 || { cat target/gateway.log; exit 1; }
-for program in courier guard; do
-    cc -Wall -Wextra -O2 -o "target/$program" "crates/gateway/c/$program.c" target/staticlib/libgateway.a || exit 1
+for source in crates/gateway/c/courier.c tests/gateway/guard.c tests/gateway/cases.c; do
+    cc -Wall -Wextra -O2 -Icrates/gateway/c -o "target/$(basename "$source" .c)" "$source" target/staticlib/libgateway.a || exit 1
 done
-c++ -Wall -Wextra -O2 -o target/header crates/gateway/c/header.cpp target/staticlib/libgateway.a || exit 1
+c++ -Wall -Wextra -O2 -Icrates/gateway/c -o target/header tests/gateway/header.cpp target/staticlib/libgateway.a || exit 1
 failed=0
 for sheet in examples/*.sheet; do
     want=${sheet%.sheet}.out
@@ -24,6 +24,7 @@ for sheet in examples/*.sheet; do
     esac
 done
 target/guard examples/*.sheet || failed=1
+target/cases tests/cases/*.txt || failed=1
 target/header || failed=1
 [ "$failed" -eq 0 ] && echo "gateway: the C and C++ programs agree"
 exit "$failed"

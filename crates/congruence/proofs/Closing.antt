@@ -14,26 +14,24 @@ use lib.Seq.{ext-getD}
 use lib.Dec.{eqb}
 use borrow.Author.Tests.{eq-eqb, ne-eqb, eqb-true}
 use Rattle.logic.specs.Sheet.{Sheet, termAt, literalAt}
-use Rattle.logic.specs.Structure.{at, sumTo}
-use Rattle.logic.specs.Box.{run}
-use Rattle.logic.specs.WellFormed.{Each, WellFormed}
+use Rattle.prelude.specs.Tests.{Each, if, sameList}
+use Rattle.prelude.specs.Lists.{at, sumTo, run}
+use Rattle.prelude.proofs.Tests.{and-both, sameList-same, same-sameList}
+use Rattle.prelude.proofs.Lists.{map-each, length-run, at-run, sumTo-monotone, sumTo-equal}
+use Rattle.logic.specs.WellFormed.{WellFormed}
 use Rattle.logic.specs.Problem.{Problem}
-use Rattle.logic.proofs.Meaning.{map-each}
-use Rattle.sheet.specs.Layout.{if, sameList}
 use Rattle.sheet.specs.Packed.{packed, view, bit}
 use Rattle.sheet.specs.Views.{Views}
-use Rattle.sheet.proofs.Bools.{and-both}
-use Rattle.sheet.proofs.Growing.{sameList-same, same-sameList}
-use Rattle.sheet.proofs.Pairs.{each-weaken}
+use Rattle.sheet.proofs.Pairs.{each-weaken, pair-map}
 use Rattle.sheet.proofs.View.{packed-views}
 use Rattle.congruence.specs.Closure.{join, joinSides, alike, joinAlike, forEach, stated, round, rounds, labels, together}
 use Rattle.congruence.specs.Forced.{Forced}
 use Rattle.congruence.specs.Groups.{Lowest, Groups, alone}
-use Rattle.congruence.specs.Steps.{Joined, named, cell, Closed, Step}
-use Rattle.congruence.specs.declared.Cell.{Cell}
+use Rattle.congruence.specs.Parts.{Joined, named, key, Closed, Coarsening}
+use Rattle.congruence.specs.declared.Key.{Key}
 use Rattle.congruence.proofs.Labels.{joined-map, joined-together, joined-step, step-none, step-more}
-use Rattle.congruence.proofs.Sweeps.{named-there, StatedTo, stated-none, stated-same, stated-differ, stated-kept, labels-group, sum-lower, sum-equal, groups-agree, groups-unique}
-use Rattle.congruence.proofs.Structures.{args-equal, views-closable, same-arity, rule-sound, forced-labels, labels-forced}
+use Rattle.congruence.proofs.Sweeps.{named-there, StatedTo, stated-none, stated-same, stated-differ, stated-kept, labels-group, groups-agree, groups-unique}
+use Rattle.congruence.proofs.Structures.{views-closable, same-arity, rule-sound, forced-labels, labels-forced}
 
 join-joined : (l : List ℕ) (i j : ℕ) → Joined (at l) i j (at (join i j l))
 join-joined l i j = joined-map l (join i j l) i j _ _ refl refl refl
@@ -54,10 +52,6 @@ length-join-if : (b : Bool) (i j : ℕ) (l : List ℕ) → length (if b (join i 
 length-join-if true i j l = length-map l _
 length-join-if false i j l = refl
 
-length-run : (least many : ℕ) → length (run least many) ≡ many
-length-run least zero = refl
-length-run least (suc many) = ap suc (length-run (suc least) many)
-
 length-stated : (sh : Sheet) → length (stated sh) ≡ length (sh .terms)
 unfolding stated
 length-stated sh =
@@ -72,11 +66,6 @@ length-round sh l =
     (length (sh .terms)) l
 
 -- At the start each term has its own number.
-at-run : (least many i : ℕ) → i < many → at (run least many) i ≡ least + i
-at-run least zero i b = absurd (omega arith)
-at-run least (suc many) zero b = omega arith
-at-run least (suc many) (suc i) b = at-run (suc least) many i (omega arith) ∙ omega arith
-
 start-cases : (n i : ℕ) → (at (run 0 n) i ≡ i) ⊎ (at (run 0 n) i ≡ 0)
 start-cases n i =
     elim (decLt i n) [
@@ -116,7 +105,7 @@ most-groups (suc n) l =
     ]
 
 -- a step leaves no more groups, and where it leaves as many it has changed no label
-module _ (P : Problem) (l m : ℕ → ℕ) (step : Step P l m) (low : Lowest l) (n : ℕ) (small : n ≤ 128) where
+module _ (P : Problem) (l m : ℕ → ℕ) (step : Coarsening P l m) (low : Lowest l) (n : ℕ) (small : n ≤ 128) where
   own-lower : (k : ℕ) → k < n → own m k ≤ own l k
   own-lower k b =
       elim (ℕ-discrete (m k) k) [
@@ -125,7 +114,7 @@ module _ (P : Problem) (l m : ℕ → ℕ) (step : Step P l m) (low : Lowest l) 
       ]
 
   no-more-groups : groupCount n m ≤ groupCount n l
-  no-more-groups = sum-lower n (own l) (own m) own-lower
+  no-more-groups = sumTo-monotone n (own m) (own l) own-lower
 
   as-many-groups : groupCount n m ≡ groupCount n l → (k : ℕ) → k < n → m k ≡ l k
   as-many-groups e k b =
@@ -133,7 +122,7 @@ module _ (P : Problem) (l m : ℕ → ℕ) (step : Step P l m) (low : Lowest l) 
       let lower = step .lower k (omega arith) in
       let again = low .self k (omega arith) in
       let moved : m (l k) ≡ m k = step .coarser (l k) k (omega arith) (omega arith) again in
-      let as-before : own m (l k) ≡ own l (l k) = sum-equal n (own l) (own m) own-lower e (l k) (omega arith) in
+      let as-before : own m (l k) ≡ own l (l k) = sumTo-equal n (own m) (own l) own-lower e (l k) (omega arith) in
       elim (ℕ-discrete (m (l k)) (l k)) [
         | yes h ↦ sym moved ∙ h
         | no h ↦ absurd (omega (arith, other-label m (l k) h, own-label l (l k) again))
@@ -164,23 +153,23 @@ module _ (sh : Sheet) (w : WellFormed sh) (P : Problem) (v : Views sh P) where
   args-there : (i n : ℕ) → i < length (sh .terms) → length (sh .terms) ≤ n → Each (λ a. a < n) (termAt sh i .args)
   args-there i n b h = each-weaken i n (termAt sh i .args) (omega arith) (w .args i b)
 
-  alike-kept : (l m : ℕ → ℕ) → Step P l m → (i j : ℕ) → i < length (sh .terms) → j < length (sh .terms) → Alike sh l i j → Alike sh m i j
+  alike-kept : (l m : ℕ → ℕ) → Coarsening P l m → (i j : ℕ) → i < length (sh .terms) → j < length (sh .terms) → Alike sh l i j → Alike sh m i j
   alike-kept l m step i j bi bj h =
       (h .0, map-coarser 128 l m (step .coarser) (termAt sh i .args) (termAt sh j .args) (args-there i 128 bi (w .terms)) (args-there j 128 bj (w .terms)) (h .1))
 
-  -- terms that reach one cell are alike
-  cell-alike : (l : ℕ → ℕ) (i j : ℕ) → i < length (sh .terms) → j < length (sh .terms) → cell P l i ≡ cell P l j → Alike sh l i j
-  cell-alike l i j bi bj e =
+  -- terms with one key are alike
+  key-alike : (l : ℕ → ℕ) (i j : ℕ) → i < length (sh .terms) → j < length (sh .terms) → key P l i ≡ key P l j → Alike sh l i j
+  key-alike l i j bi bj e =
       let n = v .terms in
       let c : ℕ → ℕ = named (P .terms) l in
       let xs = termAt sh i .args in
       let ys = termAt sh j .args in
-      let symbols = sym (v .symbol i bi) ∙ ap (λ (x : Cell). x .symbol) e ∙ v .symbol j bj in
+      let symbols = sym (v .symbol i bi) ∙ ap (λ (x : Key). x .symbol) e ∙ v .symbol j bj in
       let arity = same-arity sh w P v i j bi bj symbols in
-      let firsts = sym (ap c (v .arg0 i bi)) ∙ ap (λ (x : Cell). x .first) e ∙ ap c (v .arg0 j bj) in
-      let seconds = sym (ap c (v .arg1 i bi)) ∙ ap (λ (x : Cell). x .second) e ∙ ap c (v .arg1 j bj) in
+      let firsts = sym (ap c (v .arg0 i bi)) ∙ ap (λ (x : Key). x .first) e ∙ ap c (v .arg0 j bj) in
+      let seconds = sym (ap c (v .arg1 i bi)) ∙ ap (λ (x : Key). x .second) e ∙ ap c (v .arg1 j bj) in
       let there : (k : ℕ) → k < length (sh .terms) → map c (termAt sh k .args) ≡ map l (termAt sh k .args) = λ k b. map-each c l (λ a. a < P .terms) (named-there (P .terms) l) (termAt sh k .args) (args-there k (P .terms) b (omega arith)) in
-      (symbols, sym (there i bi) ∙ args-equal c xs ys (arity .0) (arity .1) firsts seconds ∙ there j bj)
+      (symbols, sym (there i bi) ∙ pair-map c xs ys (arity .0) (arity .1) firsts seconds ∙ there j bj)
 
   -- the same statements hold of the labels that they make
   stated-all : StatedTo P (at (run 0 (length (sh .terms)))) (length (sh .literals)) (at (stated sh))
@@ -201,7 +190,7 @@ module _ (sh : Sheet) (w : WellFormed sh) (P : Problem) (v : Views sh P) where
 
   -- the congruence rule on two terms
   abbrev Ruled : List ℕ → ℕ → ℕ → List ℕ → Type 0
-  Ruled l i j m = Step P (at l) (at m) × (Alike sh (at l) i j → at m i ≡ at m j)
+  Ruled l i j m = Coarsening P (at l) (at m) × (Alike sh (at l) i j → at m i ≡ at m j)
 
   ruled : (l : List ℕ) (i j : ℕ) → i < length (sh .terms) → j < length (sh .terms) → Ruled l i j (joinAlike sh i j l)
   ruled l i j bi bj = go (alike sh l i j) refl
@@ -219,9 +208,9 @@ module _ (sh : Sheet) (w : WellFormed sh) (P : Problem) (v : Views sh P) where
       go false e = rw e (step-none P (at l), λ h. absurd (false≢true (sym e ∙ true-alike sh l i j h)))
 
   -- a term with the earlier ones, in a round that began with the labels l
-  row : (l m : List ℕ) (j : ℕ) → j < length (sh .terms) → Step P (at l) (at m) → Step P (at m) (at (forEach j (λ i. joinAlike sh i j) m)) × ((i : ℕ) → i < j → Alike sh (at l) i j → at (forEach j (λ i. joinAlike sh i j) m) i ≡ at (forEach j (λ i. joinAlike sh i j) m) j)
+  row : (l m : List ℕ) (j : ℕ) → j < length (sh .terms) → Coarsening P (at l) (at m) → Coarsening P (at m) (at (forEach j (λ i. joinAlike sh i j) m)) × ((i : ℕ) → i < j → Alike sh (at l) i j → at (forEach j (λ i. joinAlike sh i j) m) i ≡ at (forEach j (λ i. joinAlike sh i j) m) j)
   row l m j b before =
-      for-each (λ k r. Step P (at m) (at r) × ((i : ℕ) → i < k → Alike sh (at l) i j → at r i ≡ at r j)) (λ i. joinAlike sh i j) m j
+      for-each (λ k r. Coarsening P (at m) (at r) × ((i : ℕ) → i < k → Alike sh (at l) i j → at r i ≡ at r j)) (λ i. joinAlike sh i j) m j
       (step-none P (at m), λ i none. absurd (omega arith))
       (λ k low r so.
       let small = w .terms in
@@ -239,7 +228,7 @@ module _ (sh : Sheet) (w : WellFormed sh) (P : Problem) (v : Views sh P) where
 
   -- a round joins all terms that were alike before it
   abbrev Rounded : List ℕ → ℕ → List ℕ → Type 0
-  Rounded l n m = Step P (at l) (at m) × ((j : ℕ) → j < n → (i : ℕ) → i < j → Alike sh (at l) i j → at m i ≡ at m j)
+  Rounded l n m = Coarsening P (at l) (at m) × ((j : ℕ) → j < n → (i : ℕ) → i < j → Alike sh (at l) i j → at m i ≡ at m j)
 
   rounded : (l : List ℕ) → Rounded l (length (sh .terms)) (round sh l)
   unfolding round
@@ -265,10 +254,10 @@ module _ (sh : Sheet) (w : WellFormed sh) (P : Problem) (v : Views sh P) where
       let joins : (y : ℕ) → y < length (sh .terms) → (x : ℕ) → x < y → Alike sh (at l) x y → at l x ≡ at l y =
       λ y b x less a. subst (λ (m : List ℕ). at m x ≡ at m y) e (rounded l .1 y b x less a) in
       elim (decLt i j) [
-        | yes less ↦ joins j (omega arith) i less (cell-alike (at l) i j (omega arith) (omega arith) h)
+        | yes less ↦ joins j (omega arith) i less (key-alike (at l) i j (omega arith) (omega arith) h)
         | no not-less ↦
             elim (decLt j i) [
-              | yes less ↦ sym (joins i (omega arith) j less (cell-alike (at l) j i (omega arith) (omega arith) (sym h)))
+              | yes less ↦ sym (joins i (omega arith) j less (key-alike (at l) j i (omega arith) (omega arith) (sym h)))
               | no equal ↦ let same : i ≡ j = omega arith in ap (at l) same
             ]
       ]
@@ -294,16 +283,16 @@ module _ (sh : Sheet) (w : WellFormed sh) (P : Problem) (v : Views sh P) where
   rounds-on n l e = rw (e, rounds)
 
   -- as many rounds as there are groups are enough
-  abbrev Settled : List ℕ → List ℕ → Type 0
-  Settled l m = Step P (at l) (at m) × Closed P (at m)
+  abbrev Saturated : List ℕ → List ℕ → Type 0
+  Saturated l m = Coarsening P (at l) (at m) × Closed P (at m)
 
   abbrev Enough : ℕ → Type 0
-  Enough n = (l : List ℕ) → length l ≡ length (sh .terms) → Lowest (at l) → groupCount (length (sh .terms)) (at l) ≤ n → Settled l (rounds n sh l)
+  Enough n = (l : List ℕ) → length l ≡ length (sh .terms) → Lowest (at l) → groupCount (length (sh .terms)) (at l) ≤ n → Saturated l (rounds n sh l)
 
   rounds-more : (n : ℕ) → Enough n → Enough (suc n)
   rounds-more n enough l long low few = go (sameList (round sh l) l) refl
     where
-      go : (b : Bool) → sameList (round sh l) l ≡ b → Settled l (rounds (suc n) sh l)
+      go : (b : Bool) → sameList (round sh l) l ≡ b → Saturated l (rounds (suc n) sh l)
       go true e = rw (rounds-stop n l e) (step-none P (at l), unchanged-closed l (sameList-same (round sh l) l e))
       go false e =
           elim (round-cases l long low) [

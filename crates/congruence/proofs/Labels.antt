@@ -8,10 +8,10 @@ use mathlib.Core.List.{List, map}
 use lib.ListN.{getD, List·getD-map}
 use borrow.Author.Tests.{eq-eqb, ne-eqb}
 use Rattle.logic.specs.Problem.{Problem}
-use Rattle.logic.specs.Structure.{at}
+use Rattle.prelude.specs.Lists.{at}
 use Rattle.congruence.specs.Closure.{relabel}
 use Rattle.congruence.specs.Groups.{Models, Keeps, Lowest}
-use Rattle.congruence.specs.Steps.{Joined, Step}
+use Rattle.congruence.specs.Parts.{Joined, Coarsening}
 
 pub relabel-hit : (lo hi x : ℕ) → x ≡ hi → relabel lo hi x ≡ lo
 relabel-hit lo hi x h = rw (eq-eqb x hi h)
@@ -102,7 +102,7 @@ module _ (l m : ℕ → ℕ) (i j : ℕ) (h : Joined l i j m) where
         | inr f ↦ ap c (f .1) ∙ keeps k b
       ]
 
-  pub joined-step : (P : Problem) → P .terms ≤ 128 → i < P .terms → j < P .terms → ((c : ℕ → ℕ) → Models P c → Keeps P l c → c i ≡ c j) → Step P l m
+  pub joined-step : (P : Problem) → P .terms ≤ 128 → i < P .terms → j < P .terms → ((c : ℕ → ℕ) → Models P c → Keeps P l c → c i ≡ c j) → Coarsening P l m
   joined-step P n bi bj forced =
       record {
         lower = joined-lower;
@@ -111,11 +111,11 @@ module _ (l m : ℕ → ℕ) (i j : ℕ) (h : Joined l i j m) where
         sound = λ c models keeps. joined-keeps P c n bi bj (forced c models keeps) keeps;
       }
 
-pub step-none : (P : Problem) (l : ℕ → ℕ) → Step P l l
+pub step-none : (P : Problem) (l : ℕ → ℕ) → Coarsening P l l
 step-none P l =
     record { lower = λ k b. omega arith; coarser = λ i j bi bj e. e; lowest = λ low. low; sound = λ c models keeps. keeps }
 
-pub step-more : (P : Problem) (l m n : ℕ → ℕ) → Step P l m → Step P m n → Step P l n
+pub step-more : (P : Problem) (l m n : ℕ → ℕ) → Coarsening P l m → Coarsening P m n → Coarsening P l n
 step-more P l m n s t =
     record {
       lower = λ k b. omega (arith, s .lower k b, t .lower k b);

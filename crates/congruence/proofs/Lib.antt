@@ -1,4 +1,4 @@
-pub mod Arrays
+pub mod Replacing
 pub mod Labels
 pub mod Sweeps
 pub mod Structures

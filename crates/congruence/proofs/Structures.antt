@@ -10,26 +10,15 @@ use mathlib.Core.List.{List, [], _∷_, map, List-discrete}
 use lib.ListN.{length, length-map}
 use Rattle.logic.specs.Sheet.{Sheet, symbolAt, termAt, literalAt, sortAt}
 use Rattle.logic.specs.Structure.{Structure, Interprets, SatisfiesSame, Agree, code}
-use Rattle.logic.specs.WellFormed.{Each, WellFormed}
+use Rattle.prelude.specs.Tests.{Each}
+use Rattle.logic.specs.WellFormed.{WellFormed}
 use Rattle.logic.specs.Problem.{Problem}
 use Rattle.logic.proofs.Meaning.{code-congruent, codes-own, few-arguments}
 use Rattle.sheet.specs.Packed.{first, second, bit}
 use Rattle.sheet.specs.Views.{Views}
-use Rattle.sheet.proofs.Pairs.{each-weaken}
+use Rattle.sheet.proofs.Pairs.{each-weaken, pair-map}
 use Rattle.congruence.specs.Groups.{Models, Entails, Groups, Closable, alone}
 use Rattle.congruence.specs.Forced.{Forced}
-
--- at most two arguments have equal codes one by one where the first two have
-pub args-equal : (c : ℕ → ℕ) (xs ys : List ℕ) → length xs ≡ length ys → length xs ≤ 2 → c (first xs) ≡ c (first ys) → c (second xs) ≡ c (second ys) → map c xs ≡ map c ys
-args-equal c [] [] e n f g = refl
-args-equal c [] (y ∷ ys) e n f g = absurd (omega arith)
-args-equal c (x ∷ xs) [] e n f g = absurd (omega arith)
-args-equal c (x ∷ []) (y ∷ []) e n f g = cc
-args-equal c (x ∷ []) (y ∷ y′ ∷ ys) e n f g = absurd (omega arith)
-args-equal c (x ∷ x′ ∷ xs) (y ∷ []) e n f g = absurd (omega arith)
-args-equal c (x ∷ x′ ∷ []) (y ∷ y′ ∷ []) e n f g = cc
-args-equal c (x ∷ x′ ∷ []) (y ∷ y′ ∷ y″ ∷ ys) e n f g = absurd (omega arith)
-args-equal c (x ∷ x′ ∷ x″ ∷ xs) (y ∷ y′ ∷ ys) e n f g = absurd (omega arith)
 
 -- arguments with equal labels have equal codes where codes keep to the labels; a missing one is missing on both sides
 module _ (n : ℕ) (l c : ℕ → ℕ) (keeps : (a : ℕ) → a < n → c (l a) ≡ c a) where
@@ -93,7 +82,7 @@ module _ (sh : Sheet) (w : WellFormed sh) (P : Problem) (v : Views sh P) where
             let arity = same-arity i j ci cj symbols in
             let x′ : code M sh (first (termAt sh i .args)) ≡ code M sh (first (termAt sh j .args)) = ap (code M sh) (sym (v .arg0 i ci)) ∙ x ∙ ap (code M sh) (v .arg0 j cj) in
             let y′ : code M sh (second (termAt sh i .args)) ≡ code M sh (second (termAt sh j .args)) = ap (code M sh) (sym (v .arg1 i ci)) ∙ y ∙ ap (code M sh) (v .arg1 j cj) in
-            let args = args-equal (code M sh) (termAt sh i .args) (termAt sh j .args) (arity .0) (arity .1) x′ y′ in
+            let args = pair-map (code M sh) (termAt sh i .args) (termAt sh j .args) (arity .0) (arity .1) x′ y′ in
             code-congruent M sh w i j ci cj symbols args;
         same = λ k b e.
             let c : k < length (sh .literals) = omega arith in

@@ -1,14 +1,13 @@
 -- Sweeps of the congruence rule: they are sound, and labels that a sweep leaves as they are name the groups.
-use Prim.Native.Nat.{ℕ, zero, suc, _≤_, _<_, _+_}
+use Prim.Native.Nat.{ℕ, _≤_, _<_, _+_}
 use native.Mathlib.Omega.{arith}
 use native.Mathlib.Decide.{decLt}
 use mathlib.Core.Path.{_≡_, ap, sym, _∙_}
 use borrow.Author.Tests.{lt-ltb, le-ltb}
 use Rattle.logic.specs.Problem.{Problem}
-use Rattle.logic.specs.Structure.{sumTo}
 use Rattle.congruence.specs.Groups.{Models, Keeps, Entails, Lowest, Groups, Closable, alone}
-use Rattle.congruence.specs.Steps.{Joined, named, cell, First, Closed, Step, Stated, Swept}
-use Rattle.congruence.specs.declared.Cell.{Cell}
+use Rattle.congruence.specs.Parts.{Joined, named, key, Twin, Closed, Coarsening, Stated, Swept}
+use Rattle.congruence.specs.declared.Key.{Key}
 use Rattle.congruence.proofs.Labels.{joined-together, joined-step, step-none, step-more}
 
 pub named-there : (n : ℕ) (l : ℕ → ℕ) (a : ℕ) → a < n → named n l a ≡ l a
@@ -17,7 +16,7 @@ named-there n l a h = rw (lt-ltb a n h)
 pub named-missing : (n : ℕ) (l : ℕ → ℕ) (a : ℕ) → n ≤ a → named n l a ≡ a
 named-missing n l a h = rw (le-ltb a n h)
 
--- labels that agree name arguments alike, and terms reach the same cells
+-- labels that agree name arguments alike, and give terms the same keys
 named-agree : (n : ℕ) (l m : ℕ → ℕ) → ((k : ℕ) → k < n → m k ≡ l k) → (a : ℕ) → named n m a ≡ named n l a
 named-agree n l m agree a =
     elim (decLt a n) [
@@ -25,8 +24,8 @@ named-agree n l m agree a =
       | no h ↦ let b : n ≤ a = omega arith in named-missing n m a b ∙ sym (named-missing n l a b)
     ]
 
-cell-agree : (P : Problem) (l m : ℕ → ℕ) → ((k : ℕ) → k < P .terms → m k ≡ l k) → (i : ℕ) → cell P m i ≡ cell P l i
-cell-agree P l m agree i =
+key-agree : (P : Problem) (l m : ℕ → ℕ) → ((k : ℕ) → k < P .terms → m k ≡ l k) → (i : ℕ) → key P m i ≡ key P l i
+key-agree P l m agree i =
     λ q. record {
       symbol = P .symbol i;
       first = named-agree (P .terms) l m agree (P .arg0 i) q;
@@ -42,18 +41,18 @@ keeps-named P l c keeps a =
     ]
 
 -- the congruence rule is sound
-pub alike-sound : (P : Problem) (l : ℕ → ℕ) (i j : ℕ) → i < P .terms → j < P .terms → cell P l i ≡ cell P l j → (c : ℕ → ℕ) → Models P c → Keeps P l c → c i ≡ c j
+pub alike-sound : (P : Problem) (l : ℕ → ℕ) (i j : ℕ) → i < P .terms → j < P .terms → key P l i ≡ key P l j → (c : ℕ → ℕ) → Models P c → Keeps P l c → c i ≡ c j
 alike-sound P l i j bi bj e c models keeps =
-    models .congruent i j bi bj (ap (λ (x : Cell). x .symbol) e)
-    (sym (keeps-named P l c keeps (P .arg0 i)) ∙ ap (λ (x : Cell). c (x .first)) e ∙ keeps-named P l c keeps (P .arg0 j))
-    (sym (keeps-named P l c keeps (P .arg1 i)) ∙ ap (λ (x : Cell). c (x .second)) e ∙ keeps-named P l c keeps (P .arg1 j))
+    models .congruent i j bi bj (ap (λ (x : Key). x .symbol) e)
+    (sym (keeps-named P l c keeps (P .arg0 i)) ∙ ap (λ (x : Key). c (x .first)) e ∙ keeps-named P l c keeps (P .arg0 j))
+    (sym (keeps-named P l c keeps (P .arg1 i)) ∙ ap (λ (x : Key). c (x .second)) e ∙ keeps-named P l c keeps (P .arg1 j))
 
--- the first term that reaches the cell of j has its label
-abbrev Settled : Problem → (ℕ → ℕ) → ℕ → Type 0
-Settled P l j = (t : ℕ) × First P l j t × (l t ≡ l j)
+-- the first term with the key of j has its label
+abbrev Labelled : Problem → (ℕ → ℕ) → ℕ → Type 0
+Labelled P l j = (t : ℕ) × Twin P l j t × (l t ≡ l j)
 
-settled-closed : (P : Problem) (l : ℕ → ℕ) → ((j : ℕ) → j < P .terms → Settled P l j) → Closed P l
-settled-closed P l all i j bi bj e =
+labelled-closed : (P : Problem) (l : ℕ → ℕ) → ((j : ℕ) → j < P .terms → Labelled P l j) → Closed P l
+labelled-closed P l all i j bi bj e =
     let s = all i bi in
     let t = all j bj in
     let x = s .0 in
@@ -69,47 +68,47 @@ settled-closed P l all i j bi bj e =
     ] in
     sym (s .2) ∙ ap l same ∙ t .2
 
--- a sweep so far: where it changed nothing, the terms below j are settled
+-- a sweep so far: where it changed nothing, the terms below j have the labels of their twins
 pub record SweptTo (P : Problem) (l : ℕ → ℕ) (j : ℕ) (m : ℕ → ℕ) : Type 0 where
-  pub step : Step P l m
-  pub settled : ((k : ℕ) → k < 128 → m k ≡ l k) → (i : ℕ) → i < j → Settled P l i
+  pub step : Coarsening P l m
+  pub labelled : ((k : ℕ) → k < 128 → m k ≡ l k) → (i : ℕ) → i < j → Labelled P l i
 
 pub swept-none : (P : Problem) (l : ℕ → ℕ) → SweptTo P l 0 l
-swept-none P l = record { step = step-none P l; settled = λ same i b. absurd (omega arith) }
+swept-none P l = record { step = step-none P l; labelled = λ same i b. absurd (omega arith) }
 
 module _ (P : Problem) (n : P .terms ≤ 128) (l : ℕ → ℕ) where
-  first-agree : (m : ℕ → ℕ) → ((k : ℕ) → k < 128 → m k ≡ l k) → (j t : ℕ) → First P m j t → First P l j t
-  first-agree m same j t first =
-      let cells = cell-agree P l m (λ k b. same k (omega arith)) in
+  twin-agree : (m : ℕ → ℕ) → ((k : ℕ) → k < 128 → m k ≡ l k) → (j t : ℕ) → Twin P m j t → Twin P l j t
+  twin-agree m same j t first =
+      let keys = key-agree P l m (λ k b. same k (omega arith)) in
       record {
         bound = first .bound;
-        alike = sym (cells t) ∙ first .alike ∙ cells j;
-        none = λ k b e. first .none k b (cells k ∙ e ∙ sym (cells j));
+        alike = sym (keys t) ∙ first .alike ∙ keys j;
+        none = λ k b e. first .none k b (keys k ∙ e ∙ sym (keys j));
       }
 
-  pub swept-more : (j t : ℕ) (m m′ : ℕ → ℕ) → j < P .terms → SweptTo P l j m → First P m j t → Joined m t j m′ → SweptTo P l (j + 1) m′
+  pub swept-more : (j t : ℕ) (m m′ : ℕ → ℕ) → j < P .terms → SweptTo P l j m → Twin P m j t → Joined m t j m′ → SweptTo P l (j + 1) m′
   swept-more j t m m′ b so first joined =
       let there : t < P .terms = omega (arith, first .bound) in
-      let more : Step P m m′ = joined-step m m′ t j joined P n there b (alike-sound P m t j there b (first .alike)) in
+      let more : Coarsening P m m′ = joined-step m m′ t j joined P n there b (alike-sound P m t j there b (first .alike)) in
       let together : m′ t ≡ m′ j = joined-together m m′ t j joined (omega arith) (omega arith) in
       record {
         step = step-more P l m m′ (so .step) more;
-        settled = λ same i below.
+        labelled = λ same i below.
             let before : (k : ℕ) → k < 128 → m k ≡ l k = λ k small. omega (arith, so .step .lower k small, more .lower k small, same k small) in
             elim (decLt i j) [
-              | yes h ↦ so .settled before i h
+              | yes h ↦ so .labelled before i h
               | no h ↦
                   let e : i ≡ j = omega arith in
-                  rw e (t, first-agree m before j t first, sym (same t (omega arith)) ∙ together ∙ same j (omega arith))
+                  rw e (t, twin-agree m before j t first, sym (same t (omega arith)) ∙ together ∙ same j (omega arith))
             ];
       }
 
   pub swept-all : (m : ℕ → ℕ) → SweptTo P l (P .terms) m → Swept P l m
-  swept-all m so = record { step = so .step; closed = λ same. settled-closed P l (so .settled same) }
+  swept-all m so = record { step = so .step; closed = λ same. labelled-closed P l (so .labelled same) }
 
 -- the same statements below k have been seen to
 pub record StatedTo (P : Problem) (l : ℕ → ℕ) (k : ℕ) (m : ℕ → ℕ) : Type 0 where
-  pub step : Step P l m
+  pub step : Coarsening P l m
   pub stated : (x : ℕ) → x < k → P .equal x ≡ 1 → m (P .left x) ≡ m (P .right x)
 
 pub stated-none : (P : Problem) (l : ℕ → ℕ) → StatedTo P l 0 l
@@ -122,7 +121,7 @@ module _ (P : Problem) (fits : Closable P) (k : ℕ) (b : k < P .literals) (l m 
       let n = fits .terms in
       let i-there : i < P .terms = omega (arith, fits .left k b) in
       let j-there : j < P .terms = omega (arith, fits .right k b) in
-      let more : Step P m m′ = joined-step m m′ i j joined P n i-there j-there (λ c models keeps. ap c left ∙ models .same k b equal ∙ ap c (sym right)) in
+      let more : Coarsening P m m′ = joined-step m m′ i j joined P n i-there j-there (λ c models keeps. ap c left ∙ models .same k b equal ∙ ap c (sym right)) in
       record {
         step = step-more P l m m′ (so .step) more;
         stated = λ x small e.
@@ -147,13 +146,13 @@ module _ (P : Problem) (fits : Closable P) (k : ℕ) (b : k < P .literals) (l m 
       }
 
 -- statements that hold of labels hold after a step
-pub stated-kept : (P : Problem) → Closable P → (l m : ℕ → ℕ) → Stated P l → Step P l m → Stated P m
+pub stated-kept : (P : Problem) → Closable P → (l m : ℕ → ℕ) → Stated P l → Coarsening P l m → Stated P m
 stated-kept P fits l m stated step k b e =
     let n = fits .terms in
     step .coarser (P .left k) (P .right k) (omega (arith, fits .left k b)) (omega (arith, fits .right k b)) (stated k b e)
 
 -- closed labels in which the same statements hold are themselves codes that meet everything, so that they tell apart what is not entailed
-module _ (P : Problem) (fits : Closable P) (E l : ℕ → ℕ) (low : Lowest E) (step : Step P E l) (stated : Stated P l) (closed : Closed P l) where
+module _ (P : Problem) (fits : Closable P) (E l : ℕ → ℕ) (low : Lowest E) (step : Coarsening P E l) (stated : Stated P l) (closed : Closed P l) where
   label-codes : ℕ → ℕ
   label-codes = named (P .terms) l
 
@@ -189,24 +188,6 @@ module _ (P : Problem) (fits : Closable P) (E l : ℕ → ℕ) (low : Lowest E) 
         lowest = lowest;
         least = λ i j bi bj e. omega (arith, complete i j bi bj e, lowest .below j (omega arith));
       }
-
--- the sum of the labels falls, or none has changed
-pub sum-lower : (n : ℕ) (l m : ℕ → ℕ) → ((k : ℕ) → k < n → m k ≤ l k) → sumTo n m ≤ sumTo n l
-sum-lower zero l m lower = omega arith
-sum-lower (suc n) l m lower = omega (arith, sum-lower n l m (λ k b. lower k (omega arith)), lower n (omega arith))
-
-pub sum-equal : (n : ℕ) (l m : ℕ → ℕ) → ((k : ℕ) → k < n → m k ≤ l k) → sumTo n m ≡ sumTo n l → (k : ℕ) → k < n → m k ≡ l k
-sum-equal zero l m lower e k b = absurd (omega arith)
-sum-equal (suc n) l m lower e k b =
-    let under = sum-lower n l m (λ x small. lower x (omega arith)) in
-    let last = lower n (omega arith) in
-    elim (decLt k n) [
-      | yes h ↦ sum-equal n l m (λ x small. lower x (omega arith)) (omega arith) k h
-      | no h ↦ let eq : k ≡ n = omega arith in rw eq (omega arith)
-    ]
-
-pub sum-falls : (n : ℕ) (l m : ℕ → ℕ) → ((k : ℕ) → k < n → m k ≤ l k) → (x y : ℕ) → x ≡ sumTo n m → y ≡ sumTo n l → (x ≡ y → ⊥) → sumTo n m < sumTo n l
-sum-falls n l m lower x y ex ey differ = omega (arith, sum-lower n l m lower)
 
 -- labels that agree on the terms state the same
 pub groups-agree : (P : Problem) (E E′ l : ℕ → ℕ) → ((k : ℕ) → k < P .terms → E k ≡ E′ k) → Groups P E l → Groups P E′ l

@@ -1,14 +1,13 @@
--- Which terms of a sheet the same statements force together, computed: the closure of the same statements under the congruence rule.
--- Terms have labels; those of one group have one label, which is the group's lowest-numbered term.
+-- The interface: which terms of a sheet the same statements force together, computed: the closure of the same statements under the
+-- congruence rule. Terms have labels; those of one group have one label, which is the group's lowest-numbered term.
 use Prim.Native.Nat.{ℕ, zero, suc, min, max}
 use mathlib.Core.Bool.{Bool, true, false, _&&_}
 use mathlib.Core.List.{List, map}
 use lib.ListN.{length}
 use lib.Dec.{eqb}
 use Rattle.logic.specs.Sheet.{Sheet, Literal, termAt, literalAt}
-use Rattle.logic.specs.Structure.{at}
-use Rattle.logic.specs.Box.{run}
-use Rattle.sheet.specs.Layout.{if, sameList}
+use Rattle.prelude.specs.Tests.{if, sameList}
+use Rattle.prelude.specs.Lists.{at, run}
 
 -- hi becomes lo, every other label stays
 abbrev pub relabel : ℕ → ℕ → ℕ → ℕ

@@ -1,4 +1,5 @@
--- The question "forced" (document 01, "The five questions") over structures. Floors, ceilings, total and differ statements do not occur.
+-- The interface: the question "forced" (docs/FORMAT.md, "The questions") over structures. Floors, ceilings, total and differ statements do
+-- not occur.
 use Prim.Native.Nat.{ℕ}
 use mathlib.Core.Path.{_≡_}
 use Rattle.logic.specs.Sheet.{Sheet}

@@ -1,12 +1,13 @@
--- The grouping of terms: which terms have equal codes wherever the same statements hold, and the labels that name the groups. Over
--- functions of numbers; `Forced` says the same over structures.
+-- The interface: the grouping of terms: which terms have equal codes wherever the same statements hold, and the labels that name the
+-- groups. Over functions of numbers; `Forced` says the same over structures.
 use Prim.Native.Nat.{ℕ, _≤_, _<_}
 use mathlib.Core.Path.{_≡_}
-use Rattle.logic.specs.Problem.{Problem}
+use Rattle.prelude.specs.Limits.{mostTerms, mostLiterals}
+use Rattle.logic.specs.Problem.{Problem, Congruent}
 
 -- codes that are congruent and meet the same statements; differ statements, bounds and total play no part
 pub record Models (P : Problem) (c : ℕ → ℕ) : Type 0 where
-  pub congruent : (i j : ℕ) → i < P .terms → j < P .terms → P .symbol i ≡ P .symbol j → c (P .arg0 i) ≡ c (P .arg0 j) → c (P .arg1 i) ≡ c (P .arg1 j) → c i ≡ c j
+  pub congruent : Congruent (P .terms) (P .symbol) (P .arg0) (P .arg1) c
   pub same : (k : ℕ) → k < P .literals → P .equal k ≡ 1 → c (P .left k) ≡ c (P .right k)
 
 -- the codes meet the equalities that labels state: a term has the code of its label
@@ -23,8 +24,8 @@ alone i = i
 
 -- each label is the lowest number that has it
 pub record Lowest (l : ℕ → ℕ) : Type 0 where
-  pub below : (i : ℕ) → i < 128 → l i ≤ i
-  pub self : (i : ℕ) → i < 128 → l (l i) ≡ l i
+  pub below : (i : ℕ) → i < mostTerms → l i ≤ i
+  pub self : (i : ℕ) → i < mostTerms → l (l i) ≡ l i
 
 -- the labels l name the groups of terms that the same statements and the equalities of E force together: equal labels exactly
 -- where that is entailed, and each label is the group's lowest-numbered term
@@ -36,7 +37,7 @@ pub record Groups (P : Problem) (E l : ℕ → ℕ) : Type 0 where
 
 -- what the closure asks of a sheet: it fits the arrays, and both sides of each statement are there
 pub record Closable (P : Problem) : Type 0 where
-  pub terms : P .terms ≤ 128
-  pub literals : P .literals ≤ 128
+  pub terms : P .terms ≤ mostTerms
+  pub literals : P .literals ≤ mostLiterals
   pub left : (k : ℕ) → k < P .literals → P .left k < P .terms
   pub right : (k : ℕ) → k < P .literals → P .right k < P .terms

@@ -1,148 +1,48 @@
 // The grouping of terms: congruence closure of the same statements. A group's label is its lowest-numbered term.
+use prelude::MOST_TERMS;
+use prelude::own_numbers;
+use prelude::wide;
 use sheet::Parsed;
-ghost use Prim.Native.Nat.{ℕ, _≤_, _<_};
+ghost use Prim.Native.Nat.{_≤_, _<_};
 ghost use mathlib.Core.Path.{_≡_};
 ghost use mathlib.Core.Bool.{true, false};
 ghost use mathlib.Core.List.{map};
-ghost use Rattle.logic.specs.Structure.{at, sumTo};
+ghost use Rattle.prelude.specs.Lists.{at, sumTo};
+ghost use Rattle.prelude.specs.Limits.{mostTerms};
 ghost use Rattle.sheet.specs.Packed.{view};
 ghost use Rattle.congruence.specs.Closure.{relabel};
 ghost use Rattle.congruence.specs.Groups.{Groups, Closable, Lowest, alone};
-ghost use Rattle.congruence.specs.Steps.{Joined, named, cellAt, First, Closed, Step, Stated, Swept};
+ghost use Rattle.congruence.specs.Parts.{Joined, named, keyAt, Twin, Closed, Coarsening, Stated, Swept};
 
-// A cell of a symbol's table, where labels are the codes.
-pub struct Cell {
+// A symbol with the labels of its two arguments: terms with one key have equal codes.
+pub(crate) struct Key {
     pub symbol: u8,
     pub first: u8,
     pub second: u8,
 }
 
-// A byte as a number.
-fn wide(x: u8) -> usize
-    ensures { λ r. ⌜ (r ≡ x) × (r < 256) ⌝ }
+// The groups that the same statements of the sheet alone force together.
+pub fn groups(p: Parsed) -> [u8; MOST_TERMS]
+    requires { ⌜ Closable (view p) ⌝ }
+    ensures { λ r. ⌜ Groups (view p) alone (at r) ⌝ }
 {
-    x as usize
+    let labels = own_numbers();
+    closure(p, labels)
 }
 
-// Each term alone: its label is its own number.
-pub fn start() -> [u8; 128]
-    ensures { λ r. ⌜ ((k : ℕ) → k < 128 → at r k ≡ alone k) ⌝ }
+// The groups that the same statements of the sheet and the equalities of the starting labels force together.
+pub fn closure(p: Parsed, labels: [u8; MOST_TERMS]) -> [u8; MOST_TERMS]
+    requires { ⌜ (Closable (view p)) × (Lowest (at labels)) ⌝ }
+    ensures { λ r. ⌜ Groups (view p) (at labels) (at r) ⌝ }
 {
-    let mut labels = [0u8; 128];
-    let mut k: u8 = 0;
-    while k < 128 {
-        labels[k as usize] = k;
-        k += 1;
-    }
-    labels
-}
-
-// All terms of the label hi take the label lo.
-pub fn merged(labels: [u8; 128], lo: u8, hi: u8) -> [u8; 128]
-    ensures { λ r. ⌜ r ≡ map (relabel lo hi) labels ⌝ }
-{
-    let mut out = labels;
-    let mut k: usize = 0;
-    while k < 128 {
-        if out[k] == hi {
-            out[k] = lo;
-        }
-        k += 1;
-    }
-    out
-}
-
-// The groups of the terms i and j made one.
-pub fn joined(labels: [u8; 128], i: usize, j: usize) -> [u8; 128]
-    requires { ⌜ (i < 128) × (j < 128) ⌝ }
-    ensures { λ r. ⌜ Joined (at labels) i j (at r) ⌝ }
-{
-    let a = labels[i];
-    let b = labels[j];
-    if a < b {
-        return merged(labels, a, b);
-    }
-    if b < a {
-        return merged(labels, b, a);
-    }
-    labels
-}
-
-// The label of an argument; a missing one stands for itself.
-fn label_of(labels: &[u8; 128], terms: usize, a: u8) -> u8
-    requires { ⌜ terms ≤ 128 ⌝ }
-    ensures { λ r. ⌜ r ≡ named terms (at (now (labels .entry))) a ⌝ }
-{
-    let i = wide(a);
-    if i < terms { labels[i] } else { a }
-}
-
-// The cell of a symbol's table at two arguments.
-fn cell_of(labels: &[u8; 128], terms: usize, f: u8, a: u8, b: u8) -> Cell
-    requires { ⌜ terms ≤ 128 ⌝ }
-    ensures { λ r. ⌜ r ≡ cellAt terms (at (now (labels .entry))) f a b ⌝ }
-{
-    let first = label_of(labels, terms, a);
-    let second = label_of(labels, terms, b);
-    Cell {
-        symbol: f,
-        first: first,
-        second: second,
-    }
-}
-
-// Whether two cells are one.
-fn one_cell(x: Cell, y: Cell) -> bool
-    ensures { λ r. ⌜ (r ≡ true → x ≡ y) × (r ≡ false → x ≡ y → ⊥) ⌝ }
-{
-    if x.symbol != y.symbol {
-        return false;
-    }
-    if x.first != y.first {
-        return false;
-    }
-    x.second == y.second
-}
-
-// The first term that reaches the cell of term j.
-fn twin(p: Parsed, labels: [u8; 128], j: usize) -> usize
-    requires { ⌜ (p .terms ≤ 128) × (j < p .terms) ⌝ }
-    ensures { λ r. ⌜ First (view p) (at labels) j r ⌝ }
-{
-    let terms = p.terms;
-    let goal = cell_of(&labels, terms, p.symbol[j], p.arg0[j], p.arg1[j]);
-    let mut i: usize = 0;
-    while i < j {
-        let here = cell_of(&labels, terms, p.symbol[i], p.arg0[i], p.arg1[i]);
-        if one_cell(here, goal) {
-            return i;
-        }
-        i += 1;
-    }
-    j
-}
-
-// One sweep of the congruence rule: each term joins the group of the first term that reaches its cell.
-fn sweep(p: Parsed, labels: [u8; 128]) -> [u8; 128]
-    requires { ⌜ p .terms ≤ 128 ⌝ }
-    ensures { λ r. ⌜ Swept (view p) (at labels) (at r) ⌝ }
-{
-    let mut out = labels;
-    let terms = p.terms;
-    let mut j: usize = 0;
-    while j < terms {
-        let t = twin(p, out, j);
-        let next = joined(out, t, j);
-        out = next;
-        j += 1;
-    }
-    out
+    let out = stated(p, labels);
+    saturated(p, out)
 }
 
 // The groups that each same statement makes one.
-fn stated(p: Parsed, labels: [u8; 128]) -> [u8; 128]
+fn stated(p: Parsed, labels: [u8; MOST_TERMS]) -> [u8; MOST_TERMS]
     requires { ⌜ Closable (view p) ⌝ }
-    ensures { λ r. ⌜ (Step (view p) (at labels) (at r)) × (Stated (view p) (at r)) ⌝ }
+    ensures { λ r. ⌜ (Coarsening (view p) (at labels) (at r)) × (Stated (view p) (at r)) ⌝ }
 {
     let mut out = labels;
     let literals = p.literals;
@@ -159,23 +59,10 @@ fn stated(p: Parsed, labels: [u8; 128]) -> [u8; 128]
     out
 }
 
-// The sum of the labels; it falls whenever groups become one.
-fn weight(labels: [u8; 128]) -> usize
-    ensures { λ r. ⌜ r ≡ sumTo 128 (at labels) ⌝ }
-{
-    let mut sum: usize = 0;
-    let mut k: usize = 0;
-    while k < 128 {
-        sum += wide(labels[k]);
-        k += 1;
-    }
-    sum
-}
-
 // Sweeps until one changes nothing.
-fn settled(p: Parsed, labels: [u8; 128]) -> [u8; 128]
-    requires { ⌜ p .terms ≤ 128 ⌝ }
-    ensures { λ r. ⌜ (Step (view p) (at labels) (at r)) × (Closed (view p) (at r)) ⌝ }
+fn saturated(p: Parsed, labels: [u8; MOST_TERMS]) -> [u8; MOST_TERMS]
+    requires { ⌜ p .terms ≤ mostTerms ⌝ }
+    ensures { λ r. ⌜ (Coarsening (view p) (at labels) (at r)) × (Closed (view p) (at r)) ⌝ }
 {
     let mut out = labels;
     loop {
@@ -187,20 +74,117 @@ fn settled(p: Parsed, labels: [u8; 128]) -> [u8; 128]
     }
 }
 
-// The groups that the same statements of the sheet and the equalities of the starting labels force together.
-pub fn closure(p: Parsed, labels: [u8; 128]) -> [u8; 128]
-    requires { ⌜ (Closable (view p)) × (Lowest (at labels)) ⌝ }
-    ensures { λ r. ⌜ Groups (view p) (at labels) (at r) ⌝ }
+// One sweep of the congruence rule: each term joins the group of the first term with its key.
+fn sweep(p: Parsed, labels: [u8; MOST_TERMS]) -> [u8; MOST_TERMS]
+    requires { ⌜ p .terms ≤ mostTerms ⌝ }
+    ensures { λ r. ⌜ Swept (view p) (at labels) (at r) ⌝ }
 {
-    let out = stated(p, labels);
-    settled(p, out)
+    let mut out = labels;
+    let terms = p.terms;
+    let mut j: usize = 0;
+    while j < terms {
+        let t = twin(p, out, j);
+        let next = joined(out, t, j);
+        out = next;
+        j += 1;
+    }
+    out
 }
 
-// The groups that the same statements of the sheet alone force together.
-pub fn groups(p: Parsed) -> [u8; 128]
-    requires { ⌜ Closable (view p) ⌝ }
-    ensures { λ r. ⌜ Groups (view p) alone (at r) ⌝ }
+// The first term with the key of term j.
+fn twin(p: Parsed, labels: [u8; MOST_TERMS], j: usize) -> usize
+    requires { ⌜ (p .terms ≤ mostTerms) × (j < p .terms) ⌝ }
+    ensures { λ r. ⌜ Twin (view p) (at labels) j r ⌝ }
 {
-    let labels = start();
-    closure(p, labels)
+    let terms = p.terms;
+    let goal = key_of(&labels, terms, p.symbol[j], p.arg0[j], p.arg1[j]);
+    let mut i: usize = 0;
+    while i < j {
+        let here = key_of(&labels, terms, p.symbol[i], p.arg0[i], p.arg1[i]);
+        if same_key(here, goal) {
+            return i;
+        }
+        i += 1;
+    }
+    j
+}
+
+// The key of a symbol at two arguments.
+fn key_of(labels: &[u8; MOST_TERMS], terms: usize, f: u8, a: u8, b: u8) -> Key
+    requires { ⌜ terms ≤ mostTerms ⌝ }
+    ensures { λ r. ⌜ r ≡ keyAt terms (at (now (labels .entry))) f a b ⌝ }
+{
+    let first = label_of(labels, terms, a);
+    let second = label_of(labels, terms, b);
+    Key {
+        symbol: f,
+        first,
+        second,
+    }
+}
+
+// Whether two keys are one.
+fn same_key(x: Key, y: Key) -> bool
+    ensures { λ r. ⌜ (r ≡ true → x ≡ y) × (r ≡ false → x ≡ y → ⊥) ⌝ }
+{
+    if x.symbol != y.symbol {
+        return false;
+    }
+    if x.first != y.first {
+        return false;
+    }
+    x.second == y.second
+}
+
+// The label of an argument; a missing one stands for itself.
+fn label_of(labels: &[u8; MOST_TERMS], terms: usize, a: u8) -> u8
+    requires { ⌜ terms ≤ mostTerms ⌝ }
+    ensures { λ r. ⌜ r ≡ named terms (at (now (labels .entry))) a ⌝ }
+{
+    let i = wide(a);
+    if i < terms { labels[i] } else { a }
+}
+
+// The groups of the terms i and j made one.
+fn joined(labels: [u8; MOST_TERMS], i: usize, j: usize) -> [u8; MOST_TERMS]
+    requires { ⌜ (i < mostTerms) × (j < mostTerms) ⌝ }
+    ensures { λ r. ⌜ Joined (at labels) i j (at r) ⌝ }
+{
+    let a = labels[i];
+    let b = labels[j];
+    if a < b {
+        return merged(labels, a, b);
+    }
+    if b < a {
+        return merged(labels, b, a);
+    }
+    labels
+}
+
+// All terms of the label hi take the label lo.
+fn merged(labels: [u8; MOST_TERMS], lo: u8, hi: u8) -> [u8; MOST_TERMS]
+    ensures { λ r. ⌜ r ≡ map (relabel lo hi) labels ⌝ }
+{
+    let mut out = labels;
+    let mut k: usize = 0;
+    while k < MOST_TERMS {
+        if out[k] == hi {
+            out[k] = lo;
+        }
+        k += 1;
+    }
+    out
+}
+
+// The sum of the labels; it falls whenever groups become one.
+fn weight(labels: [u8; MOST_TERMS]) -> usize
+    ensures { λ r. ⌜ r ≡ sumTo mostTerms (at labels) ⌝ }
+{
+    let mut sum: usize = 0;
+    let mut k: usize = 0;
+    while k < MOST_TERMS {
+        sum += wide(labels[k]);
+        k += 1;
+    }
+    sum
 }

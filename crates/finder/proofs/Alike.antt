@@ -5,11 +5,13 @@ use mathlib.Core.List.{List, [], _∷_, map}
 use lib.ListN.{length}
 use native.Mathlib.Omega.{arith}
 use Rattle.logic.specs.Sheet.{Sheet, symbolAt, termAt}
-use Rattle.logic.specs.WellFormed.{WellFormed, Each}
-use Rattle.logic.specs.Structure.{Structure, InSorts, Interprets, Candidate, codes, code, at}
+use Rattle.prelude.specs.Tests.{Each}
+use Rattle.prelude.specs.Lists.{at}
+use Rattle.prelude.proofs.Lists.{firsts-same, sumTo-same}
+use Rattle.logic.specs.WellFormed.{WellFormed}
+use Rattle.logic.specs.Structure.{Structure, InSorts, Interprets, Candidate, codes, code}
 use Rattle.logic.specs.Order.{sizesOf, sumOf, NoLater}
 use Rattle.logic.proofs.Codes.{reached-in-params, same-code, same-codes, satisfies-same}
-use Rattle.logic.proofs.Meaning.{firsts-same, sumTo-same}
 use Rattle.tables.specs.Layout.{decoded, encoded}
 use Rattle.tables.proofs.Tables.{encoded-size, decoded-cell}
 use Rattle.finder.specs.Answer.{Entry, sum}

@@ -1,22 +1,20 @@
 -- An answer written in front of both buffers: the codes, the sizes, and over them the whole bytes of the tables.
-use Prim.Native.Nat.{ℕ, _+_, _-_, _≤_, _<_}
+use Prim.Native.Nat.{ℕ, _+_, _-_, _≤_}
 use native.Mathlib.Omega.{arith}
-use mathlib.Core.Path.{_≡_, refl, ap, sym, _∙_}
+use mathlib.Core.Path.{_≡_, ap, sym, _∙_}
 use mathlib.Core.List.{List, _++_}
-use lib.ListN.{length, getD, take, drop}
+use lib.ListN.{length, take, drop}
 use lib.Seq.{take-length, length-take-le, getD-take, drop-drop, take-at, drop-append-add}
 use Rattle.logic.specs.Sheet.{Sheet}
-use Rattle.logic.specs.Structure.{at, sumTo}
-use Rattle.logic.specs.Order.{firsts}
-use Rattle.logic.proofs.Meaning.{length-firsts, firsts-at, firsts-same}
+use Rattle.prelude.specs.Lists.{at, sumTo, firsts}
+use Rattle.prelude.proofs.Lists.{length-firsts, firsts-at, firsts-same}
 use Rattle.sheet.specs.declared.Parsed.{Parsed}
-use Rattle.tables.specs.Layout.{extent}
 use Rattle.tables.specs.Parts.{Packs}
-use Rattle.tables.proofs.Arrays.{packs-views}
+use Rattle.tables.proofs.Packing.{packs-views}
 use Rattle.tables.proofs.Tables.{length-encoded}
 use Rattle.finder.specs.Answer.{entryOf, structureOf}
 use Rattle.finder.specs.Find.{fronted}
-use Rattle.finder.specs.Fill.{Writable, AnswerWritten, answerBytes}
+use Rattle.finder.specs.Parts.{AnswerWritten, answerBytes}
 use Rattle.finder.proofs.Listing.{sum-firsts}
 
 -- the first entries of a list, as a part of it and as values

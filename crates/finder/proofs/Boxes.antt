@@ -6,9 +6,9 @@ use mathlib.Core.List.{List, [], _∷_, map}
 use lib.ListN.{length, getD}
 use native.Mathlib.Decide.{ℕ-discrete}
 use native.Mathlib.Omega.{arith}
-use Rattle.logic.specs.Structure.{at}
+use Rattle.prelude.specs.Lists.{at, run}
 use Rattle.logic.specs.Order.{Before}
-use Rattle.logic.specs.Box.{Range, run, fronts, box}
+use Rattle.logic.specs.Box.{Range, fronts, box}
 use Rattle.finder.proofs.Lists.{Mem, Sorted, mem-left, mem-right, mem-either, mem-map, map-mem, sorted-append, sorted-map}
 
 abbrev pub InRange : Range → ℕ → Type 0

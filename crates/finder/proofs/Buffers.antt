@@ -1,16 +1,12 @@
 -- Every byte of a buffer with an answer in front: the answer's, then what stood there before.
-use Prim.Native.Nat.{ℕ, suc, _+_, _≤_, _<_}
-use mathlib.Core.Path.{_≡_, refl, ap, ap₂, sym, _∙_}
-use mathlib.Core.List.{List, [], _∷_, _++_, append-assoc}
-use lib.ListN.{length, take, drop, set, length-append}
+use Prim.Native.Nat.{ℕ}
+use mathlib.Core.Path.{_≡_, refl, ap, sym, _∙_}
+use mathlib.Core.List.{List}
+use lib.ListN.{length, take, drop}
 use native.Mathlib.Omega.{arith}
-use lib.Seq.{length-front, length-take-le, take-append-seam, drop-append-seam, drop-append-add, drop-drop, drop-cons, set-append-seam}
-use Rattle.logic.specs.Structure.{at}
+use lib.Seq.{take-append-seam, drop-append-seam}
 use Rattle.finder.specs.Find.{Outcome, turnedDown, answered, outcome, finds, finding, fronted, codesIn, codesAfter, tablesIn, tablesAfter}
 use Rattle.finder.specs.declared.Finding.the-variants.{Refused}
-
-pub length-fronted : (new buffer : List ℕ) → length new ≤ length buffer → length (fronted new buffer) ≡ length buffer
-length-fronted new buffer h = length-front buffer new (length new) (sym (length-take-le (length new) buffer h))
 
 pub front-fronted : (new buffer : List ℕ) → take (length new) (fronted new buffer) ≡ new
 front-fronted new buffer = take-append-seam new (drop (length new) buffer)
@@ -43,25 +39,3 @@ refused-untouched s cs ts n i f = step (outcome s (length cs) (length ts)) refl
         let r : finds (answered sh e) ≡ Refused n i = sym (exit s cs ts (answered sh e) q .result) ∙ f in
         let z : _≡_ {A = ℕ} 0 1 = cc in
         absurd (omega arith)
-
--- Writing in order: one more byte, or one more stretch, behind what stands in front.
-pub fronted-byte : (xs buffer : List ℕ) (x : ℕ) → length xs < length buffer → set (fronted xs buffer) (length xs) x ≡ fronted (xs ++ (x ∷ [])) buffer
-fronted-byte xs buffer x h =
-    ap (λ (l : List ℕ). set (xs ++ l) (length xs) x) (drop-cons buffer (length xs) 0 h)
-    ∙ set-append-seam xs (at buffer (length xs)) (drop (suc (length xs)) buffer) x
-    ∙ sym (append-assoc xs (x ∷ []) (drop (suc (length xs)) buffer))
-    ∙ ap (λ (n : ℕ). (xs ++ (x ∷ [])) ++ drop n buffer) more
-  where
-    more : suc (length xs) ≡ length (xs ++ (x ∷ []))
-    more = omega (arith, length-append xs (x ∷ []))
-
-pub fronted-stretch : (xs ys buffer : List ℕ) → take (length xs) (fronted xs buffer) ++ (ys ++ drop (length xs + length ys) (fronted xs buffer)) ≡ fronted (xs ++ ys) buffer
-fronted-stretch xs ys buffer =
-    ap₂ (λ (a b : List ℕ). a ++ (ys ++ b)) (front-fronted xs buffer) rest
-    ∙ sym (append-assoc xs ys (drop (length (xs ++ ys)) buffer))
-  where
-    rest : drop (length xs + length ys) (fronted xs buffer) ≡ drop (length (xs ++ ys)) buffer
-    rest =
-        drop-append-add xs (drop (length xs) buffer) (length ys)
-        ∙ drop-drop (length ys) (length xs) buffer
-        ∙ ap (λ (n : ℕ). drop n buffer) (sym (length-append xs ys))

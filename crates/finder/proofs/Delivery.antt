@@ -1,29 +1,31 @@
--- Demand 3 of the bytes: what a call gives back and leaves in the buffers is the answer of the sheet, and only that.
+-- Demand 3 of the bytes: what a call gives back and leaves in the buffers is the answer of the sheet, and only that. The bytes in front are those of
+-- the answer's structure; decoded they give a structure alike (the round trip), and so all that holds of the answer holds of what was written.
 use Prim.Native.Nat.{ℕ, _≤_, _<_}
 use mathlib.Core.Path.{_≡_, refl, ap, ap₂, sym, _∙_}
-use mathlib.Core.Logic.{inl, inr}
+use mathlib.Core.Logic.{_⊎_, inl, inr}
 use mathlib.Core.List.{List}
 use mathlib.Core.Option.{Option, none, some}
-use lib.ListN.{length, take, drop, List·getD-append}
+use lib.ListN.{length, take, drop, length-append, List·getD-append}
+use native.Mathlib.Decide.{decLt}
 use native.Mathlib.Omega.{arith}
 use Rattle.logic.specs.Sheet.{Sheet}
 use Rattle.logic.specs.WellFormed.{WellFormed}
-use Rattle.logic.specs.Structure.{at}
+use Rattle.prelude.specs.Lists.{at}
 use Rattle.logic.proofs.Meaning.{length-codes}
 use Rattle.sheet.specs.Layout.{Reading, accepted, reading}
 use Rattle.sheet.proofs.Answers.{accepted-well-formed}
 use Rattle.tables.specs.Layout.{extent, decoded, encoded}
-use Rattle.tables.proofs.Tables.{length-encoded, encoded-size, encoded-laid, extent-same, extent-at-ceilings}
+use Rattle.tables.proofs.Tables.{extent-at-ceilings, length-encoded, encoded-size, encoded-laid, extent-same}
 use Rattle.judge.specs.Judge.{judgedOf, judgement}
 use Rattle.tables.specs.declared.Judgement.the-variants.{Fits}
 use Rattle.judge.proofs.Judged.{judged-says}
 use Rattle.finder.specs.Answer.{Entry, answer, sum, structureOf, unforced}
-use Rattle.finder.specs.Find.{ceilings, answering, finding, codesAfter, tablesAfter}
+use Rattle.finder.specs.Find.{turnedDown, ceilings, answering, finding, codesAfter, tablesAfter}
 use Rattle.finder.specs.Demand.{Answers, Delivered, Promised, codesWritten, tablesWritten}
 use Rattle.finder.specs.declared.Finding.the-variants.{Found, Refused}
 use Rattle.finder.proofs.Lists.{found-or-none}
 use Rattle.finder.proofs.Demand.{demand}
-use Rattle.finder.proofs.Outcomes.{outcome-long}
+use Rattle.finder.proofs.Outcomes.{outcome-short, outcome-long}
 use Rattle.finder.proofs.Buffers.{Exit, exit, front-fronted, rest-fronted}
 use Rattle.finder.proofs.Alike.{alike-answers, alike-unreached, round-trip}
 
@@ -42,32 +44,36 @@ module _ (sh : Sheet) (w : WellFormed sh) (s cs ts : List ℕ) (reads : reading 
     long : length (e .codes) ≡ length (sh .terms)
     long = ap length (sym (given .codes)) ∙ length-codes (structureOf sh e) sh
 
-    -- both answers have room in their buffers
-    pub codes-room : length (e .codes) ≤ length cs
-    codes-room = omega (arith, long)
+    -- the sizes in front of the buffer are the answer's
+    own-sizes : (i : ℕ) → i < length (sh .bounds) → at (tablesAfter s cs ts) i ≡ structureOf sh e .size i
+    own-sizes i h =
+        ap (λ (l : List ℕ). at l i) (exits (some e) q .tables)
+        ∙ List·getD-append bytes (drop (length bytes) ts) 0 i (omega (arith, length-encoded (structureOf sh e) sh w))
+        ∙ encoded-size (structureOf sh e) sh w i h
+
+    -- the tables in front of the buffer are as long as their own sizes say
+    pub extended : extent sh (at (tablesAfter s cs ts)) ≡ length bytes
+    extended =
+        extent-same sh w (at (tablesAfter s cs ts)) (structureOf sh e .size) own-sizes ∙ sym (length-encoded (structureOf sh e) sh w)
 
     pub tables-room : length bytes ≤ length ts
     tables-room =
         omega (arith, length-encoded (structureOf sh e) sh w, extent-at-ceilings sh w (structureOf sh e .size) (given .candidate .bounded))
 
-    -- the tables in front of the buffer are as long as their own sizes say
-    extended : extent sh (at (tablesAfter s cs ts)) ≡ length bytes
-    extended =
-        extent-same sh w (at (tablesAfter s cs ts)) (structureOf sh e .size) same ∙ sym (length-encoded (structureOf sh e) sh w)
-      where
-        same : (i : ℕ) → i < length (sh .bounds) → at (tablesAfter s cs ts) i ≡ structureOf sh e .size i
-        same i h =
-            ap (λ (l : List ℕ). at l i) (exits (some e) q .tables)
-            ∙ List·getD-append bytes (drop (length bytes) ts) 0 i (omega (arith, length-encoded (structureOf sh e) sh w))
-            ∙ encoded-size (structureOf sh e) sh w i h
+    -- sizes of at most 16 codes, and no table past the buffer's end
+    whole : ((i : ℕ) → i < length (sh .bounds) → at (tablesAfter s cs ts) i ≤ 16) × (extent sh (at (tablesAfter s cs ts)) ≤ length (tablesAfter s cs ts))
+    whole = (
+      λ i h. omega (arith, own-sizes i h, given .candidate .bounded .ceiling i h, w .ceiling i h .1),
+      omega (arith, extended, ap length (exits (some e) q .tables), length-append bytes (drop (length bytes) ts)),
+    )
 
-    written : tablesWritten sh (tablesAfter s cs ts) ≡ bytes
+    pub written : tablesWritten sh (tablesAfter s cs ts) ≡ bytes
     written =
         ap (λ (k : ℕ). take k (tablesAfter s cs ts)) extended
         ∙ ap (take (length bytes)) (exits (some e) q .tables)
         ∙ front-fronted bytes ts
 
-    told : codesWritten sh (codesAfter s cs ts) ≡ e .codes
+    pub told : codesWritten sh (codesAfter s cs ts) ≡ e .codes
     told =
         ap (λ (k : ℕ). take k (codesAfter s cs ts)) (sym long)
         ∙ ap (take (length (e .codes))) (exits (some e) q .codes)
@@ -155,3 +161,23 @@ pub judged-fits : (s : List ℕ) (sh : Sheet) (n : ℕ) (C T : List ℕ) → rea
 unfolding judgement
 judged-fits s sh n C T q d =
     ap (λ (r : Reading). judgedOf r T) q ∙ judged-says sh T Fits .1 (d .laid, d .candidate, d .satisfies)
+
+-- something is found only where both buffers suffice
+module _ (s cs ts : List ℕ) (sh : Sheet) (n : ℕ) (reads : reading s ≡ accepted sh) (found : finding s (length cs) (length ts) ≡ Found n) where
+  not-short : (length cs < length (sh .terms)) ⊎ (length ts < extent sh (ceilings sh)) → ⊥
+  not-short h =
+      let r : Refused 10 0 ≡ Found n = sym (exit s cs ts (turnedDown 10 0) (outcome-short s sh (length cs) (length ts) reads h) .result) ∙ found in
+      let z : _≡_ {A = ℕ} 0 1 = cc in absurd (omega arith)
+
+  codes-fit : length (sh .terms) ≤ length cs
+  codes-fit = elim (decLt (length cs) (length (sh .terms))) [ yes h ↦ absurd (not-short (inl h)) | no h ↦ omega arith ]
+
+  tables-fit : extent sh (ceilings sh) ≤ length ts
+  tables-fit = elim (decLt (length ts) (extent sh (ceilings sh))) [ yes h ↦ absurd (not-short (inr h)) | no h ↦ omega arith ]
+
+  -- what was found stands whole in front of the table buffer
+  pub found-whole : ((i : ℕ) → i < length (sh .bounds) → at (tablesAfter s cs ts) i ≤ 16) × (extent sh (at (tablesAfter s cs ts)) ≤ length (tablesAfter s cs ts))
+  found-whole =
+      let w : WellFormed sh = accepted-well-formed s sh reads in
+      let r : (e : Entry) × (answer sh ≡ some e) × (sum (e .sizes) ≡ n) = found-is sh w s cs ts reads codes-fit tables-fit n found in
+      whole sh w s cs ts reads codes-fit tables-fit (r .0) (r .1)

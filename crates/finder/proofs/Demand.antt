@@ -9,10 +9,12 @@ use lib.ListN.{length}
 use native.Mathlib.Omega.{arith}
 use Rattle.logic.specs.Sheet.{Sheet, boundAt, symbolAt, termAt}
 use Rattle.logic.specs.WellFormed.{WellFormed}
-use Rattle.logic.specs.Structure.{Structure, InSorts, Candidate, Satisfies, codes, code, at, sumTo}
-use Rattle.logic.specs.Order.{firsts, Before, sizesOf, sumOf, Earlier}
-use Rattle.logic.proofs.OrderLaws.{no-later-exactly}
-use Rattle.logic.proofs.Meaning.{map-each, code-below, code-congruent, codes-own, length-codes, firsts-at, firsts-same}
+use Rattle.prelude.specs.Lists.{at, sumTo, firsts}
+use Rattle.prelude.proofs.Lists.{map-each, firsts-at, firsts-same}
+use Rattle.logic.specs.Structure.{Structure, InSorts, Candidate, Satisfies, codes, code}
+use Rattle.logic.specs.Order.{Before, sizesOf, sumOf, Earlier}
+use Rattle.logic.proofs.Orders.{no-later-exactly}
+use Rattle.logic.proofs.Meaning.{code-below, code-congruent, codes-own, length-codes}
 use Rattle.sheet.specs.Layout.{accepted, reading}
 use Rattle.sheet.proofs.Answers.{accepted-well-formed}
 use Rattle.finder.specs.Answer.{Entry, entryOf, cellOf, reachedCells, cellAt, structureWith, structureOf, unforced, answer, sum}

@@ -1,68 +1,97 @@
--- A table is filled from the last term to the first, so that the first term that reaches a cell decides.
+-- A table is filled from the last term to the first, so that the first term that reaches a cell decides; a cell that no term reaches keeps what
+-- stood there at the start, the unforced code.
 use Prim.Native.Nat.{ℕ, zero, suc, _+_, _-_, _≤_, _<_}
+use native.Mathlib.Decide.{decLt}
 use native.Mathlib.Omega.{arith}
 use mathlib.Core.Path.{_≡_, refl, ap, ap₂, sym, _∙_}
 use mathlib.Core.Bool.{Bool, true, false, _&&_}
 use mathlib.Core.List.{List, []}
-use lib.ListN.{getD, replicate, getD-replicate}
+use lib.ListN.{length, set}
+use lib.Seq.{getD-set-same, getD-set-other}
 use lib.Dec.{eqb}
 use borrow.Author.Tests.{eqb-true, eqb-false, eq-eqb, ne-eqb}
 use Rattle.logic.specs.Problem.{Problem}
-use Rattle.sheet.specs.Layout.{if}
-use Rattle.codes.specs.Tested.{Put}
-use Rattle.finder.specs.Fill.{held, Filled}
-use Rattle.tables.specs.Grid.{gridCell}
+use Rattle.prelude.specs.Tests.{if}
+use Rattle.prelude.specs.Lists.{at}
+use Rattle.tables.specs.Grid.{cell, Put}
+use Rattle.finder.specs.Parts.{held, Filled}
 
-pub filled-none : (P : Problem) (c : ℕ → ℕ) (f i : ℕ) → Filled P c f i 0 (replicate 16 (replicate 16 0))
-filled-none P c f i row col h k =
-    ap (λ (l : List ℕ). getD l col 0) (getD-replicate 16 row (replicate 16 0) [] h) ∙ getD-replicate 16 col 0 0 k
+-- the unforced codes of a row, one more cell of it; those of a table, one more row of it
+pub cell-more : (g : ℕ → ℕ) (cells : List ℕ) (n code : ℕ) → n < length cells → code ≡ g n → ((col : ℕ) → col < n → at cells col ≡ g col) → (col : ℕ) → col < n + 1 → at (set cells n code) col ≡ g col
+cell-more g cells n code long here before col h =
+    elim (decLt col n) [
+      | yes l ↦ getD-set-other cells n col code 0 (omega arith) ∙ before col l
+      | no l ↦ let e : col ≡ n = omega arith in rw e (getD-set-same cells n code 0 long ∙ here)
+    ]
 
-module _ (P : Problem) (c : ℕ → ℕ) (f i n : ℕ) (t : List (List ℕ)) (rest : Filled P c f (suc i) n t) where
-  pub filled-skip : (P .symbol i ≡ f → ⊥) → Filled P c f i (suc n) t
-  filled-skip other row col h k = rest row col h k ∙ rw (ne-eqb (P .symbol i) f other)
+pub row-more :
+    (g : ℕ → ℕ → ℕ) (t : List (List ℕ)) (n columns : ℕ) (cells : List ℕ) → n < length t → ((col : ℕ) → col < columns → at cells col ≡ g n col)
+    → ((row col : ℕ) → row < n → col < columns → cell t row col ≡ g row col)
+    → (row col : ℕ) → row < n + 1 → col < columns → cell (set t n cells) row col ≡ g row col
+row-more g t n columns cells long here before row col h k =
+    elim (decLt row n) [
+      | yes l ↦ ap (λ (r : List ℕ). at r col) (getD-set-other t n row cells [] (omega arith)) ∙ before row col l k
+      | no l ↦ let e : row ≡ n = omega arith in rw e (ap (λ (r : List ℕ). at r col) (getD-set-same t n cells [] long) ∙ here col k)
+    ]
 
-  pub filled-put : (u : List (List ℕ)) → P .symbol i ≡ f → Put t u (c (P .arg0 i)) (c (P .arg1 i)) (c i) → Filled P c f i (suc n) u
-  filled-put u same put row col h k = by (eqb (c (P .arg0 i)) row) (eqb (c (P .arg1 i)) col) refl refl
-    where
-      test : (a b : Bool) → eqb (c (P .arg0 i)) row ≡ a → eqb (c (P .arg1 i)) col ≡ b → if (a && b) (c i) (held P c f row col (suc i) n) ≡ held P c f row col i (suc n)
-      test a b p q =
-          sym
-          (ap (λ (s : Bool). if (s && (eqb (c (P .arg0 i)) row && eqb (c (P .arg1 i)) col)) (c i) (held P c f row col (suc i) n)) (eq-eqb (P .symbol i) f same)
-          ∙ ap₂ (λ (x y : Bool). if (x && y) (c i) (held P c f row col (suc i) n)) p q)
+module _ (P : Problem) (c : ℕ → ℕ) (f : ℕ) (u : ℕ → ℕ → ℕ) (rows columns : ℕ) where
+  module _ (i n : ℕ) (t : List (List ℕ)) (rest : Filled P c f u rows columns (suc i) n t) where
+    filled-skip : (P .symbol i ≡ f → ⊥) → Filled P c f u rows columns i (suc n) t
+    filled-skip other row col h k = rest row col h k ∙ rw (ne-eqb (P .symbol i) f other)
 
-      elsewhere : (row ≡ c (P .arg0 i) → col ≡ c (P .arg1 i) → ⊥) → gridCell u row col ≡ held P c f row col (suc i) n
-      elsewhere other = put .elsewhere row col other ∙ rest row col h k
+    filled-put : (t′ : List (List ℕ)) → P .symbol i ≡ f → Put t t′ (c (P .arg0 i)) (c (P .arg1 i)) (c i) → Filled P c f u rows columns i (suc n) t′
+    filled-put t′ same put row col h k = by (eqb (c (P .arg0 i)) row) (eqb (c (P .arg1 i)) col) refl refl
+      where
+        later : ℕ
+        later = held P c f row col (u row col) (suc i) n
 
-      by : (a b : Bool) → eqb (c (P .arg0 i)) row ≡ a → eqb (c (P .arg1 i)) col ≡ b → gridCell u row col ≡ held P c f row col i (suc n)
-      by true true p q =
-          ap₂ (gridCell u) (sym (eqb-true (c (P .arg0 i)) row p)) (sym (eqb-true (c (P .arg1 i)) col q)) ∙ put .here ∙ test true true p q
-      by true false p q = elsewhere (λ x y. eqb-false (c (P .arg1 i)) col q (sym y)) ∙ test true false p q
-      by false b p q = elsewhere (λ x y. eqb-false (c (P .arg0 i)) row p (sym x)) ∙ test false b p q
+        test : (a b : Bool) → eqb (c (P .arg0 i)) row ≡ a → eqb (c (P .arg1 i)) col ≡ b → if (a && b) (c i) later ≡ held P c f row col (u row col) i (suc n)
+        test a b p q =
+            sym
+            (ap (λ (s : Bool). if (s && (eqb (c (P .arg0 i)) row && eqb (c (P .arg1 i)) col)) (c i) later) (eq-eqb (P .symbol i) f same)
+            ∙ ap₂ (λ (x y : Bool). if (x && y) (c i) later) p q)
 
--- the terms from i on have been put in
-abbrev pub FilledFrom : Problem → (ℕ → ℕ) → ℕ → ℕ → List (List ℕ) → Type 0
-FilledFrom P c f i t = (n : ℕ) → i + n ≡ P .terms → Filled P c f i n t
+        elsewhere : (row ≡ c (P .arg0 i) → col ≡ c (P .arg1 i) → ⊥) → cell t′ row col ≡ later
+        elsewhere other = put .elsewhere row col other ∙ rest row col h k
 
-pub from-none : (P : Problem) (c : ℕ → ℕ) (f : ℕ) → FilledFrom P c f (P .terms) (replicate 16 (replicate 16 0))
-from-none P c f zero e = filled-none P c f (P .terms)
-from-none P c f (suc n) e = absurd (omega (arith, e))
+        by : (a b : Bool) → eqb (c (P .arg0 i)) row ≡ a → eqb (c (P .arg1 i)) col ≡ b → cell t′ row col ≡ held P c f row col (u row col) i (suc n)
+        by true true p q =
+            ap₂ (cell t′) (sym (eqb-true (c (P .arg0 i)) row p)) (sym (eqb-true (c (P .arg1 i)) col q)) ∙ put .here ∙ test true true p q
+        by true false p q = elsewhere (λ x y. eqb-false (c (P .arg1 i)) col q (sym y)) ∙ test true false p q
+        by false b p q = elsewhere (λ x y. eqb-false (c (P .arg0 i)) row p (sym x)) ∙ test false b p q
 
-module _ (P : Problem) (c : ℕ → ℕ) (f i : ℕ) (t : List (List ℕ)) (some-left : 0 < i) (inside : i ≤ P .terms) (so-far : FilledFrom P c f i t) where
-  from-next : (n : ℕ) → (i - 1) + suc n ≡ P .terms → Filled P c f (suc (i - 1)) n t
-  from-next n e =
-      let same : suc (i - 1) ≡ i = omega arith in
-      rw same (so-far n (omega (arith, e)))
+  -- the terms from i on have been put in
+  abbrev pub FilledFrom : ℕ → List (List ℕ) → Type 0
+  FilledFrom i t = (n : ℕ) → i + n ≡ P .terms → Filled P c f u rows columns i n t
 
-  pub from-skip : (P .symbol (i - 1) ≡ f → ⊥) → FilledFrom P c f (i - 1) t
-  from-skip other zero e = absurd (omega (arith, e))
-  from-skip other (suc n) e = filled-skip P c f (i - 1) n t (from-next n e) other
+  module _ (i : ℕ) (t : List (List ℕ)) (some-left : 0 < i) (inside : i ≤ P .terms) (so-far : FilledFrom i t) where
+    from-next : (n : ℕ) → (i - 1) + suc n ≡ P .terms → Filled P c f u rows columns (suc (i - 1)) n t
+    from-next n e =
+        let same : suc (i - 1) ≡ i = omega arith in
+        rw same (so-far n (omega (arith, e)))
 
-  pub from-put :
-      (u : List (List ℕ)) (row col code : ℕ) → P .symbol (i - 1) ≡ f → row ≡ c (P .arg0 (i - 1)) → col ≡ c (P .arg1 (i - 1)) → code ≡ c (i - 1)
-      → Put t u row col code → FilledFrom P c f (i - 1) u
-  from-put u row col code same a b d put zero e = absurd (omega (arith, e))
-  from-put u row col code same a b d put (suc n) e =
-      filled-put P c f (i - 1) n t (from-next n e) u same (rw (← a, ← b, ← d) put)
+    pub from-skip : (P .symbol (i - 1) ≡ f → ⊥) → FilledFrom (i - 1) t
+    from-skip other zero e = absurd (omega (arith, e))
+    from-skip other (suc n) e = filled-skip (i - 1) n t (from-next n e) other
 
-pub from-all : (P : Problem) (c : ℕ → ℕ) (f i : ℕ) (t : List (List ℕ)) → i ≡ 0 → FilledFrom P c f i t → Filled P c f 0 (P .terms) t
-from-all P c f i t e so-far = rw e at (so-far (P .terms) (omega (arith, e)))
+    pub from-put :
+        (t′ : List (List ℕ)) (row col code : ℕ) → P .symbol (i - 1) ≡ f → row ≡ c (P .arg0 (i - 1)) → col ≡ c (P .arg1 (i - 1)) → code ≡ c (i - 1)
+        → Put t t′ row col code → FilledFrom (i - 1) t′
+    from-put t′ row col code same a b d put zero e = absurd (omega (arith, e))
+    from-put t′ row col code same a b d put (suc n) e =
+        filled-put (i - 1) n t (from-next n e) t′ same (rw (← a, ← b, ← d) put)
+
+  pub from-all : (i : ℕ) (t : List (List ℕ)) → i ≡ 0 → FilledFrom i t → Filled P c f u rows columns 0 (P .terms) t
+  from-all i t e so-far = rw e at (so-far (P .terms) (omega (arith, e)))
+
+-- no term has been put in: what stands there is what stood there
+pub from-none : (P : Problem) (c : ℕ → ℕ) (f rows columns : ℕ) (t : List (List ℕ)) → FilledFrom P c f (cell t) rows columns (P .terms) t
+from-none P c f rows columns t zero e = λ row col h k. refl
+from-none P c f rows columns t (suc n) e = absurd (omega (arith, e))
+
+-- what stood at the start being the unforced codes, as far as the table goes
+pub filled-table :
+    (P : Problem) (c : ℕ → ℕ) (f n : ℕ) (u v : ℕ → ℕ → ℕ) (rows columns : ℕ) (t : List (List ℕ)) → rows ≤ 16 → columns ≤ 16
+    → ((row col : ℕ) → row < rows → col < columns → u row col ≡ v row col) → Filled P c f u 16 16 0 n t → Filled P c f v rows columns 0 n t
+filled-table P c f n u v rows columns t r s same filled row col h k =
+    filled row col (omega arith) (omega arith) ∙ ap (λ (d : ℕ). held P c f row col d 0 n) (same row col h k)

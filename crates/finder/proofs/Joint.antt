@@ -1,7 +1,7 @@
--- The joint between the search and the definition of the answer: what the search shows of the functions that view a sheet, the answer
--- by definition is.
+-- The joint between the search and the definition of the answer. `Consistent` and `Fits` say the same of sizes and codes, the one of the functions
+-- that view a sheet, the other of its lists, once codes past the terms are cut off; so the least that is consistent is the soonest that fits.
 use Prim.Native.Nat.{ℕ, zero, suc, _≤_, _<_}
-use mathlib.Core.Path.{_≡_, refl, ap, ap₂, sym, _∙_, subst}
+use mathlib.Core.Path.{_≡_, refl, ap, sym, _∙_, subst}
 use mathlib.Core.Bool.{Bool, true, false}
 use mathlib.Core.Logic.{inl, inr}
 use mathlib.Core.List.{List, [], _∷_, map}
@@ -9,15 +9,19 @@ use mathlib.Core.Option.{none, some}
 use lib.ListN.{length, getD, length-map, List·getD-map, List·getD-eq-default}
 use native.Mathlib.Omega.{arith}
 use Rattle.logic.specs.Sheet.{Sheet, symbolAt, termAt, literalAt, sortAt}
-use Rattle.logic.specs.WellFormed.{WellFormed, Each}
-use Rattle.logic.specs.Structure.{at, sumTo, Bounded, Agree}
-use Rattle.logic.specs.Order.{Before, firsts, NotAfter}
+use Rattle.prelude.specs.Tests.{Each}
+use Rattle.prelude.specs.Lists.{at, sumTo, firsts}
+use Rattle.prelude.proofs.Lists.{length-firsts, at-firsts, firsts-same, sumTo-same}
+use Rattle.logic.specs.WellFormed.{WellFormed}
+use Rattle.logic.specs.Structure.{Bounded, Agree}
+use Rattle.logic.specs.Order.{Before, NotAfter}
 use Rattle.logic.specs.Problem.{Problem, WellSorted, Allowed, Consistent, Unsatisfiable, Least}
-use Rattle.logic.proofs.Meaning.{length-firsts, at-firsts, firsts-same, sumTo-same, few-arguments}
-use Rattle.logic.proofs.OrderLaws.{not-after}
-use Rattle.sheet.specs.Packed.{first, second, bit}
+use Rattle.logic.proofs.Meaning.{few-arguments}
+use Rattle.logic.proofs.Orders.{not-after}
+use Rattle.sheet.specs.Packed.{bit}
 use Rattle.sheet.specs.Views.{Views}
 use Rattle.sheet.specs.Layout.{accepted, reading}
+use Rattle.sheet.proofs.Pairs.{pair-map}
 use Rattle.tables.specs.Layout.{extent}
 use Rattle.finder.specs.Answer.{entryOf, answer, sum}
 use Rattle.finder.specs.Find.{turnedDown, answered, ceilings, outcome}
@@ -43,17 +47,6 @@ argument-earlier i (a ∷ l) (suc k) e h = argument-earlier i l k (e .1) (omega 
 -- equal values of the arguments, as lists and by place
 same-at : (f : ℕ → ℕ) (l m : List ℕ) (k : ℕ) → map f l ≡ map f m → f (argument l k) ≡ f (argument m k)
 same-at f l m k e = sym (List·getD-map f l k 255) ∙ ap (λ (x : List ℕ). getD x k (f 255)) e ∙ List·getD-map f m k 255
-
-same-map : (f : ℕ → ℕ) (l m : List ℕ) → length l ≡ length m → length l ≤ 2 → f (first l) ≡ f (first m) → f (second l) ≡ f (second m) → map f l ≡ map f m
-same-map f [] [] e h p q = refl
-same-map f [] (b ∷ m) e h p q = absurd (omega arith)
-same-map f (a ∷ l) [] e h p q = absurd (omega arith)
-same-map f (a ∷ []) (b ∷ []) e h p q = ap (λ (x : ℕ). x ∷ []) p
-same-map f (a ∷ []) (b ∷ d ∷ m) e h p q = absurd (omega arith)
-same-map f (a ∷ c ∷ l) (b ∷ []) e h p q = absurd (omega arith)
-same-map f (a ∷ c ∷ []) (b ∷ d ∷ []) e h p q = ap₂ (λ (x y : ℕ). x ∷ y ∷ []) p q
-same-map f (a ∷ c ∷ []) (b ∷ d ∷ g ∷ m) e h p q = absurd (omega arith)
-same-map f (a ∷ c ∷ g ∷ l) (b ∷ d ∷ m) e h p q = absurd (omega arith)
 
 module _ (sh : Sheet) (P : Problem) (w : WellFormed sh) (v : Views sh P) where
   -- a term of the one view is a term of the other
@@ -167,7 +160,7 @@ module _ (sh : Sheet) (P : Problem) (w : WellFormed sh) (v : Views sh P) where
         none = λ i h. past i (omega (arith, v .terms));
         congruent = λ i j h l p q r.
             f .solution .congruent i j (there i h) (there j l) (same-symbol i j h l p)
-            (same-map c (termAt sh i .args) (termAt sh j .args) (same-arity i j h l p) (few-arguments sh w i (there i h))
+            (pair-map c (termAt sh i .args) (termAt sh j .args) (same-arity i j h l p) (few-arguments sh w i (there i h))
             (sym (ap c (v .arg0 i (there i h))) ∙ q ∙ ap c (v .arg0 j (there j l)))
             (sym (ap c (v .arg1 i (there i h))) ∙ r ∙ ap c (v .arg1 j (there j l))));
         same = λ k h e.

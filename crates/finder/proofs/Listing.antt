@@ -12,11 +12,12 @@ use native.Mathlib.Omega.{arith}
 use borrow.Author.Tests.{eqb-true, eq-eqb}
 use Rattle.logic.specs.Sheet.{Sheet, Bound, Term, termAt, sortAt, boundAt}
 use Rattle.logic.specs.WellFormed.{WellFormed}
-use Rattle.logic.specs.Structure.{at, sumTo, Bounded}
-use Rattle.logic.specs.Order.{Before, firsts}
-use Rattle.logic.specs.Box.{run, box}
-use Rattle.logic.proofs.Meaning.{length-firsts, at-firsts, firsts-at, sumTo-same}
-use Rattle.logic.proofs.OrderLaws.{before-asym, before-irrefl}
+use Rattle.prelude.specs.Lists.{at, sumTo, firsts, run}
+use Rattle.prelude.proofs.Lists.{length-firsts, at-firsts, firsts-at, sumTo-same}
+use Rattle.logic.specs.Structure.{Bounded}
+use Rattle.logic.specs.Order.{Before}
+use Rattle.logic.specs.Box.{box}
+use Rattle.logic.proofs.Orders.{before-asym, before-irrefl}
 use Rattle.finder.specs.Answer.{Entry, entryOf, sum, each, sizeRange, codeRange, sizeRanges, codeRanges, sizesOfSum, entriesAt, listing, solves, answer}
 use Rattle.finder.proofs.Lists
 use Rattle.finder.proofs.Lists.{Mem, Sorted, First}

@@ -1,4 +1,4 @@
--- Lists in order: membership, sorted lists, and the first entry that passes a test.
+-- Lists in order: membership, sorted lists, and the first entry that passes a test. In a sorted list it comes before every other that passes.
 use Prim.Native.Nat.{ℕ}
 use mathlib.Core.Path.{_≡_, refl, ap, sym, _∙_, subst}
 use mathlib.Core.Bool.{Bool, true, false, false≢true}
@@ -6,7 +6,7 @@ use mathlib.Core.Logic.{_⊎_, inl, inr}
 use mathlib.Core.List.{List, [], _∷_, _++_, map}
 use mathlib.Core.Option.{Option, none, some}
 use native.Mathlib.Omega.{arith}
-use Rattle.sheet.specs.Layout.{if}
+use Rattle.prelude.specs.Tests.{if}
 use Rattle.finder.specs.Answer.{each, keep, firstThat}
 
 abbrev pub Mem : {A : Type 0} → A → List A → Type 0

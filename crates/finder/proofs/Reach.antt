@@ -1,11 +1,12 @@
--- The table that the code fills holds, cell by cell, what the structure of the answer holds.
+-- The table that the code fills holds, cell by cell, what the structure of the answer holds: in both the first term that reaches a cell decides, and
+-- the test by row and column is the test of the key, as a term of the symbol has as many arguments as the cell.
 use Prim.Native.Nat.{ℕ, zero, suc, _+_, _≤_, _<_}
 use native.Mathlib.Omega.{arith}
 use mathlib.Core.Path.{_≡_, refl, ap, ap₂, sym, _∙_}
 use mathlib.Core.Bool.{Bool, true, false, _&&_}
 use mathlib.Core.List.{List, [], _∷_, map}
 use mathlib.Core.Option.{Option, some, Option·getD}
-use lib.ListN.{length, getD, drop, length-map, drop-of-length-le}
+use lib.ListN.{length, drop, length-map, drop-of-length-le}
 use lib.Seq.{drop-cons}
 use lib.Dec.{eqb}
 use borrow.Author.Tests.{eqb-true}
@@ -13,18 +14,11 @@ use Rattle.logic.specs.Sheet.{Sheet, Term, symbolAt, termAt, sortAt}
 use Rattle.logic.specs.WellFormed.{WellFormed}
 use Rattle.logic.specs.Problem.{Problem}
 use Rattle.logic.proofs.Meaning.{few-arguments}
-use Rattle.sheet.specs.Layout.{if, sameList}
+use Rattle.prelude.specs.Tests.{if, sameList}
 use Rattle.sheet.specs.Packed.{first, second}
 use Rattle.sheet.specs.Views.{Views}
 use Rattle.finder.specs.Answer.{cellsFrom, cellAt}
-use Rattle.finder.specs.Fill.{reaches, held}
-
--- row and column of a cell
-abbrev pub rowOf : List ℕ → ℕ
-rowOf xs = getD xs 0 0
-
-abbrev pub columnOf : List ℕ → ℕ
-columnOf xs = getD xs 1 0
+use Rattle.finder.specs.Parts.{rowOf, columnOf, reaches, held}
 
 and-true : (b : Bool) → (b && true) ≡ b
 and-true true = refl
@@ -44,9 +38,9 @@ by-place c z (a ∷ b ∷ []) (x ∷ y ∷ []) e h = ap (λ (t : Bool). eqb (c a
 by-place c z (a ∷ b ∷ []) (x ∷ y ∷ w ∷ xs) e h = absurd (omega arith)
 by-place c z (a ∷ b ∷ d ∷ l) (x ∷ y ∷ xs) e h = absurd (omega arith)
 
-chosen : (b : Bool) (x : ℕ) (r : Option ℕ) → Option·getD (if b (some x) r) 0 ≡ if b x (Option·getD r 0)
-chosen true x r = refl
-chosen false x r = refl
+chosen : (b : Bool) (x d : ℕ) (r : Option ℕ) → Option·getD (if b (some x) r) d ≡ if b x (Option·getD r d)
+chosen true x d r = refl
+chosen false x d r = refl
 
 module _ (sh : Sheet) (P : Problem) (w : WellFormed sh) (v : Views sh P) (c : ℕ → ℕ) (past : c 255 ≡ 0) (f : ℕ) (xs : List ℕ) (full : length xs ≡ length (symbolAt sh f .params)) where
   -- a term of symbol f has as many arguments as the cell
@@ -72,16 +66,16 @@ module _ (sh : Sheet) (P : Problem) (w : WellFormed sh) (v : Views sh P) (c : �
           (by-place c past (termAt sh i .args) xs (as-many i h (eqb-true (termAt sh i .symbol) f e)) (few-arguments sh w i h))
       by false e = rw e
 
-  -- the first of the last n terms that reaches the cell
-  held-from : (n i : ℕ) → i + n ≡ length (sh .terms) → Option·getD (cellAt (f ∷ xs) (cellsFrom c i (drop i (sh .terms)))) 0 ≡ held P c f (rowOf xs) (columnOf xs) i n
-  held-from zero i e =
-      ap (λ (ts : List Term). Option·getD (cellAt (f ∷ xs) (cellsFrom c i ts)) 0) (drop-of-length-le (sh .terms) {i = i} (omega (arith, e)))
-  held-from (suc n) i e =
+  -- the first of the last n terms that reaches the cell; where none does, d
+  held-from : (d n i : ℕ) → i + n ≡ length (sh .terms) → Option·getD (cellAt (f ∷ xs) (cellsFrom c i (drop i (sh .terms)))) d ≡ held P c f (rowOf xs) (columnOf xs) d i n
+  held-from d zero i e =
+      ap (λ (ts : List Term). Option·getD (cellAt (f ∷ xs) (cellsFrom c i ts)) d) (drop-of-length-le (sh .terms) {i = i} (omega (arith, e)))
+  held-from d (suc n) i e =
       let inside : i < length (sh .terms) = omega (arith, e) in
-      ap (λ (ts : List Term). Option·getD (cellAt (f ∷ xs) (cellsFrom c i ts)) 0) (drop-cons (sh .terms) i (record { symbol = 0; args = [] }) inside)
-      ∙ chosen (sameList (termAt sh i .symbol ∷ map c (termAt sh i .args)) (f ∷ xs)) (c i) (cellAt (f ∷ xs) (cellsFrom c (suc i) (drop (suc i) (sh .terms))))
-      ∙ ap₂ (λ (b : Bool) (d : ℕ). if b (c i) d) (same-test i inside) (held-from n (suc i) (omega (arith, e)))
+      ap (λ (ts : List Term). Option·getD (cellAt (f ∷ xs) (cellsFrom c i ts)) d) (drop-cons (sh .terms) i (record { symbol = 0; args = [] }) inside)
+      ∙ chosen (sameList (termAt sh i .symbol ∷ map c (termAt sh i .args)) (f ∷ xs)) (c i) d (cellAt (f ∷ xs) (cellsFrom c (suc i) (drop (suc i) (sh .terms))))
+      ∙ ap₂ (λ (b : Bool) (x : ℕ). if b (c i) x) (same-test i inside) (held-from d n (suc i) (omega (arith, e)))
 
-  -- THE CELL: what all terms say of it is what the answer's structure holds there
-  pub cell-held : Option·getD (cellAt (f ∷ xs) (cellsFrom c 0 (sh .terms))) 0 ≡ held P c f (rowOf xs) (columnOf xs) 0 (length (sh .terms))
-  cell-held = held-from (length (sh .terms)) 0 (omega arith)
+  -- THE CELL: what all terms say of it is what a structure holds there whose unforced code is d
+  pub cell-held : (d : ℕ) → Option·getD (cellAt (f ∷ xs) (cellsFrom c 0 (sh .terms))) d ≡ held P c f (rowOf xs) (columnOf xs) d 0 (length (sh .terms))
+  cell-held d = held-from d (length (sh .terms)) 0 (omega arith)

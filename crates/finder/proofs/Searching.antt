@@ -1,36 +1,42 @@
--- From what the search shows of a parsed sheet to what find promises.
+-- From what the search shows of a parsed sheet to what find promises: each way out of find has an outcome, and the outcome gives result and buffers.
 use Prim.Native.Nat.{ℕ, _≤_, _<_}
 use native.Mathlib.Decide.{decLt}
 use native.Mathlib.Omega.{arith}
-use mathlib.Core.Path.{_≡_, refl, ap, sym, _∙_}
+use mathlib.Core.Path.{_≡_, refl, sym, _∙_}
+use mathlib.Core.Bool.{Bool, true, false}
 use mathlib.Core.Logic.{inl, inr}
 use mathlib.Core.List.{List}
 use lib.ListN.{length}
-use Rattle.logic.specs.Sheet.{Sheet}
+use Rattle.logic.specs.Sheet.{Sheet, literalAt}
 use Rattle.logic.specs.WellFormed.{WellFormed}
-use Rattle.logic.specs.Structure.{at}
+use Rattle.prelude.specs.Lists.{at}
 use Rattle.logic.specs.Problem.{Least, Unsatisfiable}
-use Rattle.sheet.specs.Layout.{Reading, accepted, refused, reading}
-use Rattle.sheet.specs.Packed.{parsing, view}
+use Rattle.sheet.specs.Layout.{reading}
+use Rattle.sheet.specs.Packed.{bit, parsing, view}
 use Rattle.sheet.specs.Views.{Views}
 use Rattle.sheet.specs.declared.Parsed.{Parsed}
 use Rattle.sheet.specs.declared.Parsing.{Parsing}
-use Rattle.judge.proofs.Questions.{number-accepted, packs}
+use Rattle.sheet.proofs.Verdicts.{number-accepted, number-refused}
 use Rattle.sheet.proofs.Answers.{accepted-well-formed}
 use Rattle.tables.specs.Layout.{extent}
 use Rattle.tables.specs.Parts.{Packs, Limited}
-use Rattle.tables.proofs.Arrays.{packs-views, symbols-packed}
+use Rattle.tables.proofs.Packing.{packs-views, symbols-packed}
 use Rattle.tables.proofs.Whole.{packs-limited}
 use Rattle.tables.proofs.Tables.{extent-monotone}
-use Rattle.codes.specs.Searchable.{Searchable}
+use Rattle.consistency.specs.Searchable.{Searchable}
 use Rattle.finder.specs.Answer.{entryOf}
-use Rattle.finder.specs.Find.{Outcome, turnedDown, answered, outcome, finds, codesIn, tablesIn, ceilings, Finds}
-use Rattle.finder.specs.Fill.{Writable, ReadFrom}
+use Rattle.finder.specs.Find.{Outcome, turnedDown, answered, outcome, finds, codesIn, tablesIn, ceilings, Finds, ReadFrom}
+use Rattle.finder.specs.Parts.{Writable}
 use Rattle.finder.specs.declared.Finding.{Finding}
 use Rattle.finder.specs.declared.Finding.the-variants.{Refused}
 use Rattle.finder.proofs.Outcomes.{outcome-refused, outcome-short}
 use Rattle.finder.proofs.Joint.{well-sorted, outcome-none, outcome-least}
 use Rattle.finder.proofs.Buffers.{exit}
+
+-- a statement says same by 1 and differ by 0
+bit-most : (b : Bool) → bit b ≤ 1
+bit-most true = omega arith
+bit-most false = omega arith
 
 -- what the outcome of a call makes of the result and the buffers
 pub outcome-finds :
@@ -49,15 +55,10 @@ module _ (s : List ℕ) (q : Parsing) (e : q ≡ parsing (reading s)) where
   unfoldable pub read-from : q .number ≡ 0 → ReadFrom (q .sheet)
   read-from z =
       let a = number-accepted s q e z in
-      record { bytes = s; sheet = a .sheet; reads = a .reads; same = packs s q e (a .sheet) (a .reads) .same }
+      record { bytes = s; sheet = a .sheet; reads = a .reads; same = a .same }
 
   pub read-refused : (nc nt : ℕ) → (q .number ≡ 0 → ⊥) → outcome s nc nt ≡ turnedDown (q .number) (q .place)
-  unfolding parsing
-  read-refused nc nt h = by (reading s) refl
-    where
-      by : (r : Reading) → reading s ≡ r → outcome s nc nt ≡ turnedDown (q .number) (q .place)
-      by (accepted sh) r = absurd (h (ap (λ (x : Parsing). x .number) (e ∙ ap parsing r)))
-      by (refused n i) r = rw (e ∙ ap parsing r) (outcome-refused s n i nc nt r)
+  read-refused nc nt h = outcome-refused s (q .number) (q .place) nc nt (number-refused s q e h .reads)
 
 module _ (p : Parsed) (q : ReadFrom p) where
   abbrev sh : Sheet
@@ -82,9 +83,10 @@ module _ (p : Parsed) (q : ReadFrom p) where
         sorts = limited .sorts;
         terms = limited .terms;
         literals = limited .literals;
+        equal = λ k h. rw (views .equal k (omega (arith, views .literals))) (bit-most (literalAt sh k .equal));
         symbol = λ i h. omega (arith, views .symbol i (omega (arith, views .terms)), formed .symbol i (omega (arith, views .terms)), symbols-packed sh p stands);
         ceiling = λ s h. omega (arith, views .ceiling s (omega (arith, views .sorts)), formed .ceiling s (omega (arith, views .sorts)) .1);
-        total = omega (arith, views .total, formed .total .1);
+        total = omega (arith, views .total, formed .total);
       }
 
   module _ (nc nt : ℕ) where

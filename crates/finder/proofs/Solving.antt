@@ -11,14 +11,14 @@ use native.Mathlib.Omega.{arith}
 use borrow.Author.Tests.{eqb-true, eq-eqb}
 use Rattle.logic.specs.Sheet.{Sheet, Term, Literal, termAt, literalAt}
 use Rattle.logic.specs.WellFormed.{WellFormed}
-use Rattle.logic.specs.Structure.{at, Holds}
-use Rattle.logic.proofs.Meaning.{map-each}
+use Rattle.prelude.specs.Tests.{if, sameList}
+use Rattle.prelude.specs.Lists.{at}
+use Rattle.prelude.proofs.Tests.{and-both, sameList-same, same-sameList, decided, both-true}
+use Rattle.prelude.proofs.Lists.{map-each}
+use Rattle.logic.specs.Structure.{Holds}
 use Rattle.logic.proofs.Codes.{holds-same}
-use Rattle.sheet.specs.Layout.{if, sameList}
-use Rattle.sheet.proofs.Bools.{and-both}
-use Rattle.sheet.proofs.Growing.{sameList-same, same-sameList}
 use Rattle.tables.specs.Tests.{holds}
-use Rattle.tables.proofs.Tests.{decided, both-true, holds-true, holds-false}
+use Rattle.tables.proofs.Tests.{holds-true, holds-false}
 use Rattle.finder.specs.Answer.{Cell, cellOf, cellsFrom, reachedCells, agrees, functional, allHold, solves, cellAt}
 use Rattle.finder.proofs.Lists.{Mem}
 

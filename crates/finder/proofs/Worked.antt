@@ -1,4 +1,4 @@
--- Every worked sheet of document 01 comes out as its row says, for all buffers that are long enough for it. The listing computes each row but
+-- Every worked sheet comes out as its row says, for all buffers that are long enough for it. The listing computes each row but
 -- the eleventh, which follows from the congruence alone, whatever the bounds.
 use Prim.Native.Nat.{ℕ, _≤_, _<_}
 use mathlib.Core.Path.{_≡_, refl, ap, sym, _∙_}

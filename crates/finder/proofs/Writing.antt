@@ -1,38 +1,39 @@
--- The tables of an answer written one stretch after the other: each is the whole table of its symbol.
-use Prim.Native.Nat.{ℕ, zero, suc, _+_, _-_, _*_, _≤_, _<_}
+-- The tables of an answer written one stretch after the other: each is the whole table of its symbol. Throughout, the buffer holds the answer's bytes
+-- up to the offset of the next table and behind it what stood there.
+use Prim.Native.Nat.{ℕ, suc, _+_, _-_, _*_, _≤_, _<_}
 use native.Mathlib.Omega.{arith}
 use native.Mathlib.Decide.{decLt}
 use native.Mathlib.Nat.{add-zero}
 use native.Mathlib.Numerals.{add-one}
 use mathlib.Core.Path.{_≡_, refl, ap, ap₂, sym, _∙_, fun-ext}
-use mathlib.Core.Logic.{_⊎_, inl, inr}
 use mathlib.Core.List.{List, [], _∷_, _++_, append-assoc}
-use mathlib.Core.Option.{Option, Option·getD}
+use mathlib.Core.Option.{Option·getD}
 use lib.ListN.{length, take, drop, take-append-drop, List·getD-eq-default}
 use lib.Seq.{take-at, drop-at, drop-drop, length-take-le}
 use borrow.Rule.Slice.PartMut.{putMid, same-len-mid, mid-len}
-use Rattle.logic.specs.Sheet.{Sheet, Symbol, symbolAt}
-use Rattle.logic.specs.Structure.{Structure, InSorts, at}
-use Rattle.logic.specs.Order.{firsts}
-use Rattle.logic.specs.WellFormed.{WellFormed, Each}
-use Rattle.logic.proofs.Meaning.{length-firsts, at-firsts, firsts-same}
-use Rattle.logic.proofs.Sums.{sumTo-grows}
+use Rattle.logic.specs.Sheet.{Sheet, symbolAt}
+use Rattle.prelude.specs.Tests.{Each, if}
+use Rattle.prelude.specs.Lists.{at, firsts}
+use Rattle.prelude.proofs.Lists.{length-firsts, at-firsts, firsts-same, sumTo-grows}
+use Rattle.logic.specs.Structure.{Structure, InSorts}
+use Rattle.logic.specs.WellFormed.{WellFormed}
 use lib.Dec.{ltb}
-use Rattle.sheet.specs.Layout.{if}
 use Rattle.sheet.specs.Packed.{first, second, view}
 use Rattle.sheet.specs.declared.Parsed.{Parsed}
-use Rattle.tables.specs.Layout.{cells, offset, extent, encoded, tableBytes}
-use Rattle.tables.specs.Grid.{grid, gridCell}
+use Rattle.tables.specs.Layout.{cells, offset, extent, tableBytes}
+use Rattle.tables.specs.Grid.{grid, cell}
 use Rattle.tables.specs.Parts.{Packs, Extents, Limited, width}
 use Rattle.tables.proofs.Whole.{packs-limited}
-use Rattle.tables.proofs.Grids.{length-grid, grid-is-table}
+use Rattle.tables.proofs.Grids.{length-grid, in-grid, grid-is-table}
 use Rattle.tables.proofs.Tables.{length-encoded, encoded-sizes, encoded-more, encoded-whole}
-use Rattle.tables.proofs.Arrays.{packs-views, param0-packed, param1-packed, params-below-8, cells-packed, symbols-packed, offset-same, width-there}
-use Rattle.finder.specs.Answer.{Cell, Entry, entryOf, structureOf, cellsFrom, unforced}
+use Rattle.tables.proofs.Packing.{packs-views, param0-packed, param1-packed, params-below-8, cells-packed, symbols-packed}
+use Rattle.tables.proofs.Offsets.{offset-same}
+use Rattle.tables.proofs.Widths.{width-there}
+use Rattle.finder.specs.Answer.{Entry, entryOf, structureOf, cellsFrom, unforced}
 use Rattle.finder.specs.Answer as Answer
-use Rattle.finder.specs.Fill.{Filled, held, Writable, answerBytes}
+use Rattle.finder.specs.Parts.{rowOf, columnOf, unforcedAt, Filled, held, Writable, answerBytes}
 use Rattle.finder.specs.Find.{ceilings, fronted}
-use Rattle.finder.proofs.Reach.{rowOf, columnOf, cell-held}
+use Rattle.finder.proofs.Reach.{cell-held}
 
 in-sorts-length : (size : ℕ → ℕ) (params xs : List ℕ) → InSorts size params xs → length xs ≡ length params
 in-sorts-length size [] [] i = refl
@@ -40,15 +41,17 @@ in-sorts-length size [] (x ∷ xs) i = absurd i
 in-sorts-length size (s ∷ ss) [] i = absurd i
 in-sorts-length size (s ∷ ss) (x ∷ xs) i = ap suc (in-sorts-length size ss xs (i .1))
 
--- codes in sorts of at most 16 codes lie in a table of 16 rows of 16
-row-small : (size : ℕ → ℕ) (params xs : List ℕ) → Each (λ s. size s ≤ 16) params → InSorts size params xs → (rowOf xs < 16) × (columnOf xs < 16)
-row-small size [] [] e i = (omega arith, omega arith)
-row-small size [] (x ∷ xs) e i = absurd i
-row-small size (s ∷ ss) [] e i = absurd i
-row-small size (s ∷ []) (x ∷ []) e i = (omega (arith, e .0, i .0), omega arith)
-row-small size (s ∷ []) (x ∷ y ∷ xs) e i = absurd (i .1)
-row-small size (s ∷ r ∷ ss) (x ∷ []) e i = absurd (i .1)
-row-small size (s ∷ r ∷ ss) (x ∷ y ∷ xs) e i = (omega (arith, e .0, i .0), omega (arith, e .1 .0, i .1 .0))
+-- the argument codes of a cell from its row and its column
+cell-codes : (params xs : List ℕ) → length xs ≡ length params → length params ≤ 2 → take (length params) (rowOf xs ∷ columnOf xs ∷ []) ≡ xs
+cell-codes [] [] e h = refl
+cell-codes [] (x ∷ xs) e h = absurd (omega arith)
+cell-codes (s ∷ ss) [] e h = absurd (omega arith)
+cell-codes (s ∷ []) (x ∷ []) e h = refl
+cell-codes (s ∷ []) (x ∷ y ∷ xs) e h = absurd (omega arith)
+cell-codes (s ∷ r ∷ ss) (x ∷ []) e h = absurd (omega arith)
+cell-codes (s ∷ r ∷ []) (x ∷ y ∷ []) e h = refl
+cell-codes (s ∷ r ∷ []) (x ∷ y ∷ z ∷ xs) e h = absurd (omega arith)
+cell-codes (s ∷ r ∷ q ∷ ss) (x ∷ y ∷ xs) e h = absurd (omega arith)
 
 each-map : {p q : ℕ → Type 0} (l : List ℕ) → ((s : ℕ) → p s → q s) → Each p l → Each q l
 each-map [] h e = tt
@@ -98,29 +101,37 @@ module _ (sh : Sheet) (p : Parsed) (k : Packs sh p) (size c : ℕ → ℕ) (sixt
       let both = width-small size (symbolAt sh f .params) (params-below-8 sh p k f h) (small-params f h) in
       (rw (param0-packed sh p k f h) (both .0), rw (param1-packed sh p k f h) (both .1))
 
+  -- the rows and columns of a symbol's table at the answer's own sizes
+  own-widths : (f : ℕ) → f < length (sh .symbols) → (width size (at (p .param0) f) ≡ width (M .size) (first (symbolAt sh f .params))) × (width size (at (p .param1) f) ≡ width (M .size) (second (symbolAt sh f .params)))
+  own-widths f h =
+      let same = widths-same (length (sh .bounds)) size (M .size) (symbolAt sh f .params) (w .params f h) (λ s l. sym (own-size s l)) in
+      (ap (width size) (param0-packed sh p k f h) ∙ same .0, ap (width size) (param1-packed sh p k f h) ∙ same .1)
+
+  -- a table filled for symbol f
+  abbrev Full : ℕ → List (List ℕ) → Type 0
+  Full f t =
+      Filled (view p) c f (unforcedAt sh size c f) (width size (at (p .param0) f)) (width size (at (p .param1) f)) 0 (p .terms) t
+
   -- what stands in a cell of the filled table
-  filled-cell :
-      (f : ℕ) → f < length (sh .symbols) → (t : List (List ℕ)) → Filled (view p) c f 0 (p .terms) t
-      → (xs : List ℕ) → InSorts (M .size) (symbolAt sh f .params) xs → gridCell t (rowOf xs) (columnOf xs) ≡ M .table f xs
-  unfolding unforced
+  filled-cell : (f : ℕ) → f < length (sh .symbols) → (t : List (List ℕ)) → Full f t → (xs : List ℕ) → InSorts (M .size) (symbolAt sh f .params) xs → cell t (rowOf xs) (columnOf xs) ≡ M .table f xs
   filled-cell f h t filled xs i =
+      let params = symbolAt sh f .params in
       let v = packs-views sh p k in
-      let inside = row-small (M .size) (symbolAt sh f .params) xs (each-map (symbolAt sh f .params) (λ s l. omega (arith, own-size s l, sixteen s l)) (w .params f h)) i in
-      filled (rowOf xs) (columnOf xs) (inside .0) (inside .1)
-      ∙ ap (held (view p) c f (rowOf xs) (columnOf xs) 0) (v .terms)
-      ∙ sym (cell-held sh (view p) w v c (past 255 (omega (arith, w .terms))) f xs (in-sorts-length (M .size) (symbolAt sh f .params) xs i))
-      ∙ sym (ap (λ (g : ℕ → ℕ). Option·getD (Answer.cellAt (f ∷ xs) (cellsFrom g 0 (sh .terms))) 0) own-codes)
+      let widths = own-widths f h in
+      let inside = in-grid (M .size) params xs (w .arity f h) (params-below-8 sh p k f h) i in
+      let many = in-sorts-length (M .size) params xs i in
+      filled (rowOf xs) (columnOf xs) (rw (widths .0) (inside .row)) (rw (widths .1) (inside .column))
+      ∙ ap (held (view p) c f (rowOf xs) (columnOf xs) (unforcedAt sh size c f (rowOf xs) (columnOf xs)) 0) (v .terms)
+      ∙ sym (cell-held sh (view p) w v c (past 255 (omega (arith, w .terms))) f xs many (unforcedAt sh size c f (rowOf xs) (columnOf xs)))
+      ∙ ap₂ (λ (g : ℕ → ℕ) (ys : List ℕ). Option·getD (Answer.cellAt (f ∷ xs) (cellsFrom g 0 (sh .terms))) (unforced sh e f ys)) (sym own-codes) (cell-codes params xs many (w .arity f h))
 
   -- THE TABLE of a symbol, as it is written
   pub table-written :
-      (f : ℕ) → f < length (sh .symbols) → (t : List (List ℕ)) → Filled (view p) c f 0 (p .terms) t
+      (f : ℕ) → f < length (sh .symbols) → (t : List (List ℕ)) → Full f t
       → grid t (width size (at (p .param0) f)) (width size (at (p .param1) f)) ≡ tableBytes M f (symbolAt sh f .params)
   table-written f h t filled =
-      let params = symbolAt sh f .params in
-      let same = widths-same (length (sh .bounds)) size (M .size) params (w .params f h) (λ s l. sym (own-size s l)) in
-      ap₂ (λ (a b : ℕ). grid t (width size a) (width size b)) (param0-packed sh p k f h) (param1-packed sh p k f h)
-      ∙ ap₂ (grid t) (same .0) (same .1)
-      ∙ grid-is-table M f params t (w .arity f h) (params-below-8 sh p k f h) (filled-cell f h t filled)
+      ap₂ (grid t) (own-widths f h .0) (own-widths f h .1)
+      ∙ grid-is-table M f (symbolAt sh f .params) t (w .arity f h) (params-below-8 sh p k f h) (filled-cell f h t filled)
 
   -- the stretch of a table, and the stretches before it
   pub stretch : (offsets : List ℕ) → Extents p size offsets → (f : ℕ) → f < length (sh .symbols) → at offsets (f + 1) ≡ at offsets f + width size (at (p .param0) f) * width size (at (p .param1) f)
@@ -240,7 +251,8 @@ module _ (p : Parsed) (size c : ℕ → ℕ) (d : List ℕ) (w : Writable p size
         omega (arith, w .room)
 
     pub tables-more :
-        (t : List (List ℕ)) (bytes : List ℕ) (rows columns : ℕ) → Filled (view p) c f 0 (p .terms) t
+        (t : List (List ℕ)) (bytes : List ℕ) (rows columns : ℕ)
+        → ((sh : Sheet) (size′ : ℕ → ℕ) → Packs sh p → f < length (sh .symbols) → Filled (view p) c f (unforcedAt sh size′ c f) rows columns 0 (p .terms) t)
         → rows ≡ width size (at (p .param0) f) → columns ≡ width size (at (p .param1) f) → bytes ≡ grid t rows columns
         → TablesTo p size c offsets d (f + 1) (putMid (at offsets f) (at offsets (f + 1) - at offsets f) d′ bytes)
     tables-more t bytes rows columns filled r s b =
@@ -258,7 +270,7 @@ module _ (p : Parsed) (size c : ℕ → ℕ) (d : List ℕ) (w : Writable p size
               written-more sh p k size c six past d d′ f (at offsets f) many bytes (so-far .wrote sh k six past z) h (room-for sh k)
               (so-far .laid .offset sh k f (omega arith))
               (omega (arith, next-offset, cells-packed sh p k size f h))
-              (b ∙ ap₂ (grid t) r s ∙ table-written sh p k size c six past f h t filled);
+              (b ∙ ap₂ (grid t) r s ∙ table-written sh p k size c six past f h t (rw (← r, ← s) (filled sh size k h)));
         }
 
   pub tables-all :

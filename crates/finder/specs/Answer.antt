@@ -1,4 +1,4 @@
--- The answer to a sheet, by definition: the first entry of a plain listing that solves the sheet (document 01, "Which answer"), and
+-- Interface. The answer to a sheet, by definition: the first entry of a plain listing that solves the sheet (docs/FORMAT.md, "Which answer"), and
 -- the structure that it stands for. How the answer is found plays no part here.
 use Prim.Native.Nat.{ℕ, suc, _-_}
 use mathlib.Core.Bool.{Bool, true, not, _&&_, _||_}
@@ -7,10 +7,10 @@ use mathlib.Core.Option.{Option, none, some, Option·getD}
 use lib.ListN.{length}
 use lib.Dec.{eqb}
 use Rattle.logic.specs.Sheet.{Sheet, Bound, Term, Literal, symbolAt}
-use Rattle.logic.specs.Structure.{Structure, at, sumTo}
-use Rattle.logic.specs.Order.{firsts}
-use Rattle.logic.specs.Box.{Range, run, box}
-use Rattle.sheet.specs.Layout.{if, sameList}
+use Rattle.prelude.specs.Tests.{if, sameList}
+use Rattle.prelude.specs.Lists.{at, sumTo, firsts, run}
+use Rattle.logic.specs.Structure.{Structure}
+use Rattle.logic.specs.Box.{Range, box}
 use Rattle.tables.specs.Tests.{holds}
 
 -- Lists: what f gives of each entry, one after the other; the entries that pass a test; the first that does; the sum. (What a `let` binds
@@ -30,7 +30,7 @@ firstThat p (x ∷ xs) = let r = firstThat p xs in if (p x) (some x) r
 abbrev pub sum : List ℕ → ℕ
 sum l = sumTo (length l) (at l)
 
--- An entry of the listing: a size for each sort (document 01: field) and a code for each term (expression), in the sheet's order.
+-- An entry of the listing: a size for each sort (field) and a code for each term (expression), in the sheet's order.
 pub record Entry : Type 0 where
   pub sizes : List ℕ
   pub codes : List ℕ

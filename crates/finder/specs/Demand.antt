@@ -1,4 +1,4 @@
--- Demand 3, in the words of document 01: what the answer by definition is among all structures, and so what a call leaves behind. Proved
+-- Interface. Demand 3: what the answer by definition is among all structures, and so what a call leaves behind. Proved
 -- for every accepted sheet: `accepted-demand` of proofs/Demand.antt, `accepted-promised` of proofs/Delivery.antt.
 use Prim.Native.Nat.{ℕ, _<_}
 use mathlib.Core.Path.{_≡_}
@@ -7,7 +7,8 @@ use mathlib.Core.List.{List, map}
 use mathlib.Core.Option.{none, some}
 use lib.ListN.{length, take, drop}
 use Rattle.logic.specs.Sheet.{Sheet, symbolAt, termAt}
-use Rattle.logic.specs.Structure.{Structure, InSorts, Candidate, Satisfies, codes, code, at}
+use Rattle.prelude.specs.Lists.{at}
+use Rattle.logic.specs.Structure.{Structure, InSorts, Candidate, Satisfies, codes, code}
 use Rattle.logic.specs.Order.{sizesOf, sumOf, NoLater}
 use Rattle.tables.specs.Layout.{extent, decoded, WellLaid}
 use Rattle.finder.specs.Answer.{Entry, answer, sum, structureOf, unforced}

@@ -1,5 +1,4 @@
--- What "find" gives back for every call, and what both buffers hold afterwards (document 01, "The five questions" and "Why a call is
--- turned down").
+-- Interface. What "find" gives back for every call, and what both buffers hold afterwards (docs/FORMAT.md, "The questions" and "Refusals").
 use Prim.Native.Nat.{ℕ}
 use mathlib.Core.Path.{_≡_}
 use mathlib.Core.Bool.{Bool, true, false, _||_}
@@ -9,6 +8,8 @@ use lib.ListN.{length, drop}
 use lib.Dec.{ltb}
 use Rattle.logic.specs.Sheet.{Sheet, boundAt}
 use Rattle.sheet.specs.Layout.{Reading, accepted, refused, reading}
+use Rattle.sheet.specs.Packed.{packed}
+use Rattle.sheet.specs.declared.Parsed.{Parsed}
 use Rattle.tables.specs.Layout.{extent, encoded}
 use Rattle.finder.specs.Answer.{Entry, answer, sum, structureOf}
 use Rattle.finder.specs.declared.Finding.{Finding}
@@ -76,3 +77,10 @@ pub record Finds (s cs ts cs′ ts′ : List ℕ) (r : Finding) : Type 0 where
   pub result : r ≡ finding s (length cs) (length ts)
   pub codes : cs′ ≡ codesAfter s cs ts
   pub tables : ts′ ≡ tablesAfter s cs ts
+
+-- a parsed sheet with the bytes that it was read from
+pub record ReadFrom (p : Parsed) : Type 0 where
+  pub bytes : List ℕ
+  pub sheet : Sheet
+  pub reads : reading bytes ≡ accepted sheet
+  pub same : p ≡ packed sheet

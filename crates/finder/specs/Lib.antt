@@ -2,4 +2,4 @@ pub mod Answer
 pub mod Demand
 pub mod Find
 pub mod Worked
-pub mod Fill
+pub mod Parts

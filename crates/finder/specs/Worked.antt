@@ -1,5 +1,5 @@
--- The fourteen worked sheets of document 01 as one table, and the printed example. A row has the sheet's bytes, the lengths of the code and
--- table buffers that it asks for, and what "find" is to give back and to write; a refused call writes nothing.
+-- Interface. The fourteen worked sheets (docs/FORMAT.md, "Worked sheets") as one table, and the printed example. A row has the sheet's bytes, the
+-- lengths of the code and table buffers that it asks for, and what "find" is to give back and to write; a refused call writes nothing.
 use Prim.Native.Nat.{ℕ, _≤_, _<_}
 use mathlib.Core.Path.{_≡_}
 use mathlib.Core.Logic.{_⊎_}
@@ -153,7 +153,7 @@ row13 =
 abbrev pub row14 : Row
 row14 = record { sheet = field 2 2 ++ event ++ total 16; codeBytes = 0; tableBytes = 3; result = Found 2; codes = []; tables = (2 ∷ []) ++ (0 ∷ 0 ∷ []) }
 
--- the printed example, case 9 with total 3, byte by byte as document 01 has it
+-- the printed example, case 9 with total 3, byte by byte
 abbrev pub printed : Row
 printed =
     record {

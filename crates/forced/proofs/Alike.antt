@@ -7,9 +7,11 @@ use mathlib.Core.List.{List, []}
 use lib.ListN.{length, getD}
 use lib.Dec.{ltb, eqb}
 use Rattle.logic.specs.Sheet.{Sheet, Symbol, Term, Literal, literalAt}
-use Rattle.logic.specs.Structure.{Structure, InSorts, Interprets, SatisfiesSame, codesFrom, codes, Holds, at}
+use Rattle.prelude.specs.Tests.{if}
+use Rattle.prelude.specs.Lists.{at}
+use Rattle.logic.specs.Structure.{Structure, InSorts, Interprets, SatisfiesSame, codesFrom, codes, Holds}
 use Rattle.logic.proofs.Codes.{holds-same}
-use Rattle.sheet.specs.Layout.{if, accepted, reading}
+use Rattle.sheet.specs.Layout.{accepted, reading}
 use Rattle.congruence.specs.Closure.{together}
 use Rattle.congruence.specs.Forced.{Forced}
 use Rattle.forced.specs.declared.Forcing.the-variants.{Yes, No}

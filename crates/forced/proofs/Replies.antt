@@ -8,14 +8,16 @@ use mathlib.Core.List.{List}
 use lib.ListN.{length}
 use borrow.Author.Tests.{ltb-true, lt-ltb, le-ltb, eq-eqb, ne-eqb}
 use Rattle.logic.specs.Sheet.{Sheet, sortAt}
-use Rattle.logic.specs.Structure.{at}
+use Rattle.prelude.specs.Tests.{if}
+use Rattle.prelude.specs.Lists.{at}
+use Rattle.prelude.proofs.Tests.{and-both}
 use Rattle.logic.specs.WellFormed.{WellFormed}
-use Rattle.sheet.specs.Layout.{Reading, accepted, refused, if, reading}
+use Rattle.sheet.specs.Layout.{Reading, accepted, refused, reading}
 use Rattle.sheet.specs.Packed.{packed, parsing, view}
 use Rattle.sheet.specs.declared.Parsed.{Parsed}
 use Rattle.sheet.specs.declared.Parsing.{Parsing}
 use Rattle.sheet.proofs.Answers.{refused-number, accepted-well-formed}
-use Rattle.sheet.proofs.Bools.{and-both}
+use Rattle.sheet.proofs.Verdicts.{Accepts, number-accepted, number-refused}
 use Rattle.sheet.proofs.View.{packed-views}
 use Rattle.congruence.specs.Closure.{together}
 use Rattle.congruence.specs.Groups.{Groups, Closable, alone}
@@ -27,12 +29,8 @@ use Rattle.forced.specs.Answer.{comparable, forcing, answer}
 
 -- a refused sheet
 pub refused-reply : (s : List ℕ) (a b : ℕ) (p : Parsing) → p ≡ parsing (reading s) → (p .number ≡ 0 → ⊥) → Refused (p .number) (p .place) ≡ answer s a b
-unfolding parsing answer
-refused-reply s a b p e nonzero = go (reading s) refl
-  where
-    go : (R : Reading) → reading s ≡ R → Refused (p .number) (p .place) ≡ forcing (reading s) a b
-    go (accepted sh) h = absurd (nonzero (ap (λ (x : Parsing). x .number) (e ∙ ap parsing h)))
-    go (refused n i) h = ap (λ (x : Parsing). Refused (x .number) (x .place)) (e ∙ ap parsing h) ∙ sym (ap (λ (R : Reading). forcing R a b) h)
+unfolding answer
+refused-reply s a b p e nonzero = rw (number-refused s p e nonzero .reads) refl
 
 -- forced refuses with the number of a refused sheet, or with 13
 pub refusal-number : (s : List ℕ) (a b n i : ℕ) → answer s a b ≡ Refused n i → (n ≤ 9) ⊎ (n ≡ 13)
@@ -49,16 +47,8 @@ refusal-number s a b n i e = by (reading s) refl e
     by (refused m j) q z = let same : m ≡ n = cc in inl (omega (arith, refused-number s m j q))
 
 -- an accepted sheet
-pub accepted-parsing : (s : List ℕ) (p : Parsing) → p ≡ parsing (reading s) → p .number ≡ 0 → (sh : Sheet) × (reading s ≡ accepted sh) × (p .sheet ≡ packed sh)
-unfolding parsing
-accepted-parsing s p e zero = go (reading s) refl
-  where
-    go : (R : Reading) → reading s ≡ R → (sh : Sheet) × (reading s ≡ accepted sh) × (p .sheet ≡ packed sh)
-    go (accepted sh) h = (sh, h, ap (λ (x : Parsing). x .sheet) (e ∙ ap parsing h))
-    go (refused n i) h = absurd (omega (arith, ap (λ (x : Parsing). x .number) (e ∙ ap parsing h), refused-number s n i h))
-
 module _ (s : List ℕ) (sh : Sheet) (e : reading s ≡ accepted sh) (a b : ℕ) where
-  -- an expression is not there, or the two lie in different fields
+  -- a term is not there, or the two are of different sorts
   pub turned-down : comparable sh a b ≡ false → answer s a b ≡ Refused 13 0
   unfolding answer
   turned-down h = rw (e, h)
@@ -75,8 +65,8 @@ module _ (s : List ℕ) (sh : Sheet) (e : reading s ≡ accepted sh) (a b : ℕ)
   absent-second there h = sym (turned-down (rw (lt-ltb a (length (sh .terms)) there, le-ltb b (length (sh .terms)) h)))
 
   module _ (first : a < length (sh .terms)) (second : b < length (sh .terms)) where
-    pub other-fields : (sortAt sh a ≡ sortAt sh b → ⊥) → Refused 13 0 ≡ answer s a b
-    other-fields h = sym (turned-down (rw (lt-ltb a (length (sh .terms)) first, lt-ltb b (length (sh .terms)) second, ne-eqb (sortAt sh a) (sortAt sh b) h)))
+    pub other-sorts : (sortAt sh a ≡ sortAt sh b → ⊥) → Refused 13 0 ≡ answer s a b
+    other-sorts h = sym (turned-down (rw (lt-ltb a (length (sh .terms)) first, lt-ltb b (length (sh .terms)) second, ne-eqb (sortAt sh a) (sortAt sh b) h)))
 
     both-there : sortAt sh a ≡ sortAt sh b → comparable sh a b ≡ true
     both-there h = rw (lt-ltb a (length (sh .terms)) first, lt-ltb b (length (sh .terms)) second, eq-eqb (sortAt sh a) (sortAt sh b) h)
@@ -95,56 +85,52 @@ module _ (s : List ℕ) (sh : Sheet) (e : reading s ≡ accepted sh) (a b : ℕ)
 
 -- the same of a parsed sheet that was not refused
 module _ (s : List ℕ) (p : Parsing) (e : p ≡ parsing (reading s)) (zero : p .number ≡ 0) where
-  parsed-terms : (sh : Sheet) → p .sheet ≡ packed sh → p .sheet .terms ≡ length (sh .terms)
-  parsed-terms sh q = ap (λ (x : Parsed). x .terms) q ∙ packed-views sh .terms
+  got : Accepts s p
+  got = number-accepted s p e zero
 
-  parsed-sort : (sh : Sheet) → p .sheet ≡ packed sh → (i : ℕ) → i < length (sh .terms) → at (p .sheet .sort) i ≡ sortAt sh i
-  parsed-sort sh q i b = ap (λ (x : Parsed). at (x .sort) i) q ∙ packed-views sh .sort i b
+  formed : WellFormed (got .sheet)
+  formed = accepted-well-formed s (got .sheet) (got .reads)
+
+  parsed-terms : p .sheet .terms ≡ length (got .sheet .terms)
+  parsed-terms = ap (λ (x : Parsed). x .terms) (got .same) ∙ packed-views (got .sheet) .terms
+
+  parsed-sort : (i : ℕ) → i < length (got .sheet .terms) → at (p .sheet .sort) i ≡ sortAt (got .sheet) i
+  parsed-sort i b = ap (λ (x : Parsed). at (x .sort) i) (got .same) ∙ packed-views (got .sheet) .sort i b
 
   pub parsed-closable : Closable (view (p .sheet))
-  parsed-closable =
-      let r = accepted-parsing s p e zero in
-      rw (r .2) (views-closable (r .0) (accepted-well-formed s (r .0) (r .1)) (view (packed (r .0))) (packed-views (r .0)))
+  parsed-closable = rw (got .same) (views-closable (got .sheet) formed (view (packed (got .sheet))) (packed-views (got .sheet)))
 
   module _ (a b : ℕ) where
     pub parsed-absent-first : p .sheet .terms ≤ a → Refused 13 0 ≡ answer s a b
-    parsed-absent-first h =
-        let r = accepted-parsing s p e zero in
-        absent-first s (r .0) (r .1) a b (omega (arith, parsed-terms (r .0) (r .2)))
+    parsed-absent-first h = absent-first s (got .sheet) (got .reads) a b (omega (arith, parsed-terms))
 
     pub parsed-absent-second : a < p .sheet .terms → p .sheet .terms ≤ b → Refused 13 0 ≡ answer s a b
     parsed-absent-second there h =
-        let r = accepted-parsing s p e zero in
-        let n = parsed-terms (r .0) (r .2) in
-        absent-second s (r .0) (r .1) a b (omega arith) (omega arith)
+        absent-second s (got .sheet) (got .reads) a b (omega (arith, parsed-terms)) (omega (arith, parsed-terms))
 
     module _ (first : a < p .sheet .terms) (second : b < p .sheet .terms) where
-      pub parsed-other-fields : (at (p .sheet .sort) a ≡ at (p .sheet .sort) b → ⊥) → Refused 13 0 ≡ answer s a b
-      parsed-other-fields h =
-          let r = accepted-parsing s p e zero in
-          let n = parsed-terms (r .0) (r .2) in
-          let x = parsed-sort (r .0) (r .2) a (omega arith) in
-          let y = parsed-sort (r .0) (r .2) b (omega arith) in
-          other-fields s (r .0) (r .1) a b (omega arith) (omega arith) (λ same. h (x ∙ same ∙ sym y))
+      first-there : a < length (got .sheet .terms)
+      first-there = omega (arith, parsed-terms)
+
+      second-there : b < length (got .sheet .terms)
+      second-there = omega (arith, parsed-terms)
+
+      pub parsed-other-sorts : (at (p .sheet .sort) a ≡ at (p .sheet .sort) b → ⊥) → Refused 13 0 ≡ answer s a b
+      parsed-other-sorts h =
+          other-sorts s (got .sheet) (got .reads) a b first-there second-there
+          (λ same. h (parsed-sort a first-there ∙ same ∙ sym (parsed-sort b second-there)))
 
       module _ (one : at (p .sheet .sort) a ≡ at (p .sheet .sort) b) (l : ℕ → ℕ) (g : Groups (view (p .sheet)) alone l) where
+        one-sort : sortAt (got .sheet) a ≡ sortAt (got .sheet) b
+        one-sort = sym (parsed-sort a first-there) ∙ one ∙ parsed-sort b second-there
+
         pub parsed-one-group : l a ≡ l b → Yes ≡ answer s a b
-        parsed-one-group h =
-            let r = accepted-parsing s p e zero in
-            let n = parsed-terms (r .0) (r .2) in
-            let x = parsed-sort (r .0) (r .2) a (omega arith) in
-            let y = parsed-sort (r .0) (r .2) b (omega arith) in
-            one-group s (r .0) (r .1) a b (omega arith) (omega arith) (sym x ∙ one ∙ y) (accepted-well-formed s (r .0) (r .1)) l (rw (r .2) at g) h
+        parsed-one-group = one-group s (got .sheet) (got .reads) a b first-there second-there one-sort formed l (rw (got .same) at g)
 
         pub parsed-two-groups : (l a ≡ l b → ⊥) → No ≡ answer s a b
-        parsed-two-groups h =
-            let r = accepted-parsing s p e zero in
-            let n = parsed-terms (r .0) (r .2) in
-            let x = parsed-sort (r .0) (r .2) a (omega arith) in
-            let y = parsed-sort (r .0) (r .2) b (omega arith) in
-            two-groups s (r .0) (r .1) a b (omega arith) (omega arith) (sym x ∙ one ∙ y) (accepted-well-formed s (r .0) (r .1)) l (rw (r .2) at g) h
+        parsed-two-groups = two-groups s (got .sheet) (got .reads) a b first-there second-there one-sort formed l (rw (got .same) at g)
 
--- the answer to an accepted sheet and two expressions of one field is yes exactly when they are forced together, and no exactly when not
+-- the answer to an accepted sheet and two terms of one sort is yes exactly when they are forced together, and no exactly when not
 module _ (s : List ℕ) (a b : ℕ) (sh : Sheet) (e : reading s ≡ accepted sh) (c : comparable sh a b ≡ true) where
   pub forced-exactly : (together sh a b ≡ true) ↔ Forced sh a b
   forced-exactly =

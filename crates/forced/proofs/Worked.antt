@@ -1,4 +1,4 @@
--- The definition computes: the answers to two of the worked sheets of document 01. The differ statements play no part.
+-- The definition computes: the answers to two of the worked sheets of docs/FORMAT.md. The differ statements play no part.
 use Prim.Native.Nat.{ℕ}
 use mathlib.Core.Path.{_≡_, refl}
 use mathlib.Core.List.{List, [], _∷_}

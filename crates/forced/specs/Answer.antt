@@ -1,11 +1,12 @@
--- The answer to the question "forced" for every call (document 01, "The five questions" and "Why a call is turned down").
+-- The interface: the answer to the question "forced" for every call (docs/FORMAT.md, "The questions" and "Refusals").
 use Prim.Native.Nat.{ℕ}
 use mathlib.Core.Bool.{Bool, _&&_}
 use mathlib.Core.List.{List}
 use lib.ListN.{length}
 use lib.Dec.{ltb, eqb}
 use Rattle.logic.specs.Sheet.{Sheet, sortAt}
-use Rattle.sheet.specs.Layout.{Reading, accepted, refused, if, reading}
+use Rattle.prelude.specs.Tests.{if}
+use Rattle.sheet.specs.Layout.{Reading, accepted, refused, reading}
 use Rattle.congruence.specs.Closure.{together}
 use Rattle.forced.specs.declared.Forcing.{Forcing}
 use Rattle.forced.specs.declared.Forcing.the-variants.{Yes, No, Refused}

@@ -1,17 +1,17 @@
-// The question "forced": have two expressions one code wherever the same statements of a sheet hold?
+// The question "forced": have two terms one code wherever the same statements of a sheet hold?
 use congruence::groups;
 use sheet::parse;
 ghost use mathlib.Core.Path.{_≡_};
 ghost use Rattle.forced.specs.Answer.{answer};
 
-// The answer; a refusal has document 01's number and place.
+// The answer; a refusal has the number and the place of docs/FORMAT.md, "Refusals".
 pub enum Forcing {
     Yes,
     No,
     Refused { number: u8, place: usize },
 }
 
-// Whether the expressions a and b of a sheet are forced together.
+// Whether the terms a and b of a sheet are forced together.
 pub fn forced(sheet: &[u8], a: usize, b: usize) -> Forcing
     ensures { λ r. ⌜ r ≡ answer (now (sheet .entry)) a b ⌝ }
 {

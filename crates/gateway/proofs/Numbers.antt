@@ -2,33 +2,22 @@
 use Prim.Native.Nat.{ℕ, _≤_, _<_}
 use native.Mathlib.Decide.{decLe}
 use native.Mathlib.Omega.{arith}
-use mathlib.Core.Path.{_≡_, refl, sym, _∙_}
-use mathlib.Core.Bool.{Bool, true, false, _||_}
+use mathlib.Core.Path.{_≡_, refl}
+use mathlib.Core.Bool.{Bool, true, false}
 use mathlib.Core.List.{List}
 use lib.ListN.{length}
-use lib.Dec.{eqb, ltb}
-use borrow.Author.Tests.{lt-ltb}
-use Rattle.sheet.specs.Layout.{Reading, accepted, refused, reading, readFrom, empty, if}
+use Rattle.sheet.specs.Layout.{Reading, accepted, refused, reading}
 use Rattle.sheet.proofs.Answers.{refused-place, accepted-well-formed}
+use Rattle.sheet.proofs.Records.{reading-long}
 use mathlib.Core.Option.{Option, none, some}
 use Rattle.logic.specs.Sheet.{Sheet}
 use Rattle.finder.specs.Answer.{Entry, answer, sum}
 use Rattle.finder.specs.Find.{Outcome, turnedDown, answering, consider, short, outcome, finds, finding}
 use Rattle.finder.proofs.Demand.{accepted-demand}
 use Rattle.finder.specs.declared.Finding.the-variants as found
-use Rattle.judge.specs.Judge.{judgement, judgedOf, judged}
+use Rattle.judge.specs.Judge.{judgement, judgedOf}
 use Rattle.judge.proofs.Judged.{judged-says}
-use Rattle.tables.specs.declared.Judgement.{Judgement}
-use Rattle.tables.specs.declared.Judgement.the-variants.{Fits, OutOfBounds, Broken, Refused}
-
-or-true : (a b : Bool) → b ≡ true → (a || b) ≡ true
-or-true true b e = refl
-or-true false b e = e
-
--- a sheet that is too long is refused at place 0
-too-long : (s : List ℕ) → 4096 < length s → reading s ≡ refused 1 0
-unfolding reading
-too-long s h = rw (or-true (eqb (length s) 0) (ltb 4096 (length s)) (lt-ltb 4096 (length s) h))
+use Rattle.tables.specs.declared.Judgement.the-variants.{Broken, Refused}
 
 -- a refused sheet's place is small
 pub reading-place : (s : List ℕ) (n i : ℕ) → reading s ≡ refused n i → i ≤ 4096
@@ -36,7 +25,7 @@ reading-place s n i e = by (decLe (length s) 4096)
   where
     by : Dec (length s ≤ 4096) → i ≤ 4096
     by (yes h) = omega (arith, refused-place s n i e)
-    by (no h) = let z : i ≡ 0 = cc (too-long s (omega arith)) in omega arith
+    by (no h) = let z : i ≡ 0 = cc (reading-long s (λ z. omega arith) (omega arith)) in omega arith
 
 pub judge-place : (s t : List ℕ) (n i : ℕ) → judgement s t ≡ Refused n i → i < 65536
 unfolding judgement
@@ -80,7 +69,7 @@ find-sum s nc nt n e = by (reading s) refl e
     long sh q (some x) p z =
         let same : sum (x .sizes) ≡ n = cc in
         let a = accepted-demand s sh q .finds x p in
-        omega (arith, a .sum, a .candidate .bounded .total, accepted-well-formed s sh q .total .1)
+        omega (arith, a .sum, a .candidate .bounded .total, accepted-well-formed s sh q .total)
 
     room : (sh : Sheet) → reading s ≡ accepted sh → (b : Bool) → finds (elim b as (λ x. Outcome) [ true ↦ turnedDown 10 0 | false ↦ answering sh (answer sh) ]) ≡ found.Found n → n ≤ 128
     room sh q true z = let never : _≡_ {A = ℕ} 0 1 = cc in omega arith

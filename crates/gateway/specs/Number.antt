@@ -1,4 +1,5 @@
--- The answers of find and judge as one number of 32 bits: a refusal has its number in the upper 16 bits and its place in the lower.
+-- The interface: the answers of find and judge as one number of 32 bits: a refusal has its number in the upper 16 bits and its place in the
+-- lower.
 use Prim.Native.Nat.{ℕ, _+_, _*_}
 use Rattle.finder.specs.declared.Finding.{Finding}
 use Rattle.finder.specs.declared.Finding.the-variants as found

@@ -7,13 +7,6 @@ ghost use lib.ListN.{length};
 ghost use Rattle.finder.specs.Find.{finding, codesAfter, tablesAfter};
 ghost use Rattle.gateway.specs.Number.{refusalNumber, findNumber, judgeNumber};
 
-// A refusal as one number.
-fn refusal(number: u8, place: u16) -> u32
-    ensures { λ r. ⌜ r ≡ refusalNumber number place ⌝ }
-{
-    (number as u32) * 65536 + (place as u32)
-}
-
 // Finds the first answer to a sheet: the sum of its sizes, or the refusal. The codes stand in front of `codes` and the tables in front
 // of `tables`, and every other byte of both is as it was.
 #[no_mangle]
@@ -41,4 +34,11 @@ pub extern "C" fn judge(sheet: &[u8], tables: &[u8]) -> u32
         Judgement::Broken(k) => 2 + (k as u32),
         Judgement::Refused { number, place } => refusal(number, place as u16),
     }
+}
+
+// A refusal as one number.
+fn refusal(number: u8, place: u16) -> u32
+    ensures { λ r. ⌜ r ≡ refusalNumber number place ⌝ }
+{
+    (number as u32) * 65536 + (place as u32)
 }

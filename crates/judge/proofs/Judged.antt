@@ -8,14 +8,17 @@ use mathlib.Core.Logic.{_⊎_, inl, inr, _↔_}
 use mathlib.Core.List.{List}
 use lib.ListN.{length}
 use Rattle.logic.specs.Sheet.{Sheet, Literal, literalAt}
-use Rattle.logic.specs.Structure.{at, code, Bounded}
-use Rattle.sheet.specs.Layout.{Reading, accepted, refused, reading, if}
+use Rattle.prelude.specs.Tests.{if}
+use Rattle.prelude.specs.Lists.{at}
+use Rattle.prelude.proofs.Tests.{decided, true-not-false}
+use Rattle.logic.specs.Structure.{code, Bounded}
+use Rattle.sheet.specs.Layout.{Reading, accepted, refused, reading}
 use Rattle.sheet.proofs.Answers.{refused-number}
 use Rattle.tables.specs.declared.Judgement.{Judgement}
 use Rattle.tables.specs.declared.Judgement.the-variants.{Fits, OutOfBounds, Broken, Refused}
 use Rattle.tables.specs.Layout.{decoded, WellLaid}
 use Rattle.tables.specs.Tests.{wellLaid, inBounds, holds, statements}
-use Rattle.tables.proofs.Tests.{decided, true-not-false, holds-true, holds-false}
+use Rattle.tables.proofs.Tests.{holds-true, holds-false}
 use Rattle.tables.proofs.Laid.{well-laid-test, in-bounds-test, first-failing, statements-fit, statements-broken, laid-interprets}
 use Rattle.judge.specs.Judge.{judged, judgedOf, judgement, Says}
 

@@ -10,16 +10,17 @@ use mathlib.Core.List.{List}
 use lib.ListN.{length}
 use borrow.Author.Tests.{lt-ltb, le-ltb}
 use Rattle.logic.specs.Sheet.{Sheet, symbolAt}
-use Rattle.logic.specs.Structure.{at, code}
-use Rattle.logic.proofs.Sums.{sumTo-grows}
+use Rattle.prelude.specs.Lists.{at}
+use Rattle.prelude.proofs.Tests.{decided}
+use Rattle.prelude.proofs.Lists.{sumTo-grows}
+use Rattle.logic.specs.Structure.{code}
 use Rattle.sheet.specs.declared.Parsed.{Parsed}
 use Rattle.tables.specs.declared.Judgement.the-variants.{OutOfBounds, Refused}
 use Rattle.tables.specs.Layout.{cells, decoded}
 use Rattle.tables.specs.Tests.{wellLaid, inBounds, statements}
 use Rattle.tables.specs.Parts.{Packs, Laying}
-use Rattle.tables.proofs.Tests.{decided}
 use Rattle.tables.proofs.Laid.{well-laid-test}
-use Rattle.tables.proofs.Arrays.{symbols-packed}
+use Rattle.tables.proofs.Packing.{symbols-packed}
 use Rattle.tables.proofs.Whole.{laid-offset}
 use Rattle.judge.proofs.Judged.{judged-by}
 use Rattle.judge.specs.Judge.{judged, stretchOf, Spans}

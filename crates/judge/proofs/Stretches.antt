@@ -1,4 +1,4 @@
--- Demand 2 for table of a name: the stretch of a name that is there, in tables that are well laid, is the name's table, and not empty.
+-- Demand 2 for table of a name: the stretch of a symbol that is there, in tables that are well laid, is the table of the symbol, and not empty.
 use Prim.Native.Nat.{ℕ, _+_, _≤_, _<_}
 use native.Mathlib.Omega.{arith}
 use mathlib.Core.Path.{_≡_, refl, ap, sym, _∙_}
@@ -7,13 +7,13 @@ use lib.ListN.{length, take, drop, length-drop}
 use lib.Seq.{ext-getD, getD-take, getD-drop, length-take-le}
 use borrow.Author.Tests.{lt-ltb}
 use Rattle.logic.specs.Sheet.{Sheet, symbolAt}
-use Rattle.logic.specs.Structure.{at}
+use Rattle.prelude.specs.Lists.{at}
 use Rattle.logic.specs.WellFormed.{WellFormed}
-use Rattle.tables.specs.Layout.{cells, offset, decoded, tableBytes, encoded, WellLaid}
+use Rattle.tables.specs.Layout.{cells, offset, decoded, tableBytes, WellLaid}
 use Rattle.tables.proofs.Cells.{cells-positive}
 use Rattle.tables.proofs.Laid.{well-laid-test}
 use Rattle.tables.proofs.Tables.{length-table, encoded-table, encoded-decoded}
-use Rattle.judge.specs.Judge.{Stretch, stretch, stretchOf}
+use Rattle.judge.specs.Judge.{stretch, stretchOf}
 use Rattle.judge.proofs.Replies.{stretch-within}
 
 module _ (sh : Sheet) (w : WellFormed sh) (t : List ℕ) (l : WellLaid sh t) (f : ℕ) (h : f < length (sh .symbols)) where
@@ -25,7 +25,7 @@ module _ (sh : Sheet) (w : WellFormed sh) (t : List ℕ) (l : WellLaid sh t) (f 
   pub table-not-empty : 1 ≤ stretchOf sh t f .many
   table-not-empty = rw stretch-is (cells-positive (length (sh .bounds)) (at t) (symbolAt sh f .params) (w .params f h) (λ s b. l .size s b .0))
 
-  -- its bytes are the cells of the name's table
+  -- its bytes are the cells of the symbol's table
   pub table-of-name : stretch t (stretchOf sh t f) ≡ tableBytes (decoded sh t) f (symbolAt sh f .params)
   table-of-name =
       let start = offset sh (at t) f in

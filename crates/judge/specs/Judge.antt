@@ -1,12 +1,14 @@
--- The questions "judge" and "table of a name" (document 01, "The five questions"), as functions of the bytes.
+-- The interface: the questions "judge" and "table of a name" (docs/FORMAT.md, "The questions"), as functions of the bytes.
 use Prim.Native.Nat.{ℕ, _+_, _<_}
 use mathlib.Core.Path.{_≡_}
 use mathlib.Core.List.{List}
 use lib.ListN.{length, take, drop}
 use lib.Dec.{ltb}
 use Rattle.logic.specs.Sheet.{Sheet, symbolAt, literalAt}
-use Rattle.logic.specs.Structure.{at, code, Holds, Satisfies, Bounded, Candidate}
-use Rattle.sheet.specs.Layout.{Reading, accepted, refused, reading, if}
+use Rattle.prelude.specs.Tests.{if}
+use Rattle.prelude.specs.Lists.{at}
+use Rattle.logic.specs.Structure.{code, Holds, Satisfies, Bounded, Candidate}
+use Rattle.sheet.specs.Layout.{Reading, accepted, refused, reading}
 use Rattle.tables.specs.Layout.{cells, offset, decoded, WellLaid}
 use Rattle.tables.specs.Tests.{wellLaid, inBounds, statements}
 use Rattle.tables.specs.declared.Judgement.{Judgement}

@@ -1,7 +1,7 @@
 -- The bits of a word: what a union, a single bit and the words of 16 codes hold. Words of 16 codes go by one computed test each.
 use Prim.Native.Nat.{ℕ, zero, suc, _+_, _-_, _*_, _/_, _%_, _^_, _≤_, _<_}
-use mathlib.Core.Path.{_≡_, refl, sym, ap, _∙_}
-use mathlib.Core.Bool.{Bool, true, false, false≢true}
+use mathlib.Core.Path.{_≡_, refl, ap, _∙_}
+use mathlib.Core.Bool.{Bool, true, false, _||_}
 use mathlib.Core.Logic.{_⊎_, inl, inr}
 use native.Mathlib.Nat.{mod-lt, div-eq-of-lt, mul-mod-left, pow-suc, one-mul, zero-div, zero-mod}
 use native.Mathlib.Omega.{arith}
@@ -9,9 +9,11 @@ use borrow.Author.Tests.{eqb-true, leb-true}
 use lib.Dec.{leb, eqb}
 use lib.Bits.{bitOr, or-shr, or-step}
 use lib.Pow.{pow-lt, pow-add, shl-shr, shl-exact}
+use Rattle.prelude.specs.Tests.{every}
+use Rattle.prelude.proofs.Tests.{every-true}
 use Rattle.knowledge.specs.Knows.{Bit}
 
-digit : (n : ℕ) → n < 2 → (n ≡ 0) ⊎ (n ≡ 1)
+pub digit : (n : ℕ) → n < 2 → (n ≡ 0) ⊎ (n ≡ 1)
 digit zero h = inl refl
 digit (suc zero) h = inr refl
 digit (suc (suc n)) h = absurd (omega arith)
@@ -67,68 +69,39 @@ bit-none v h =
     let z : 0 / 2 ^ v % 2 ≡ 0 = rw zero-div (zero-mod 2) in
     omega arith
 
--- a test that is computed for each number below n
-abbrev both : Bool → Bool → Bool
-both true b = b
-both false b = false
-
-abbrev either : Bool → Bool → Bool
-either true b = true
-either false b = b
-
-abbrev below : (ℕ → Bool) → ℕ → Bool
-below f zero = true
-below f (suc n) = both (f n) (below f n)
-
-both-left : (a b : Bool) → both a b ≡ true → a ≡ true
-both-left true b e = refl
-both-left false b e = e
-
-both-right : (a b : Bool) → both a b ≡ true → b ≡ true
-both-right true b e = e
-both-right false b e = absurd (false≢true e)
-
-either-cases : (a b : Bool) → either a b ≡ true → (a ≡ true) ⊎ (b ≡ true)
-either-cases true b e = inl refl
-either-cases false b e = inr e
-
-at-below : (f : ℕ → Bool) (n : ℕ) → below f n ≡ true → (k : ℕ) → k < n → f k ≡ true
-at-below f zero t k h = absurd (omega arith)
-at-below f (suc n) t k h =
-    elim (compare k n) [
-      | inl g ↦ at-below f n (both-right (f n) (below f n) t) k g
-      | inr r ↦ elim r [ inl e ↦ ap f e ∙ both-left (f n) (below f n) t | inr g ↦ absurd (omega arith) ]
-    ]
+or-cases : (a b : Bool) → (a || b) ≡ true → (a ≡ true) ⊎ (b ≡ true)
+or-cases true b e = inl refl
+or-cases false b e = inr e
 
 -- a word with all 16 bits strikes out every code
 pub bit-full : (u : ℕ) → u < 16 → Bit 65535 u
-bit-full u h = eqb-true (65535 / 2 ^ u % 2) 1 (at-below (λ n. eqb (65535 / 2 ^ n % 2) 1) 16 refl u h)
+bit-full u h = eqb-true (65535 / 2 ^ u % 2) 1 (every-true 16 (λ n. eqb (65535 / 2 ^ n % 2) 1) refl u h)
 
 -- all bits but v: the bit v is not set, and every other is
 pub bit-all-but : (v : ℕ) → v < 16 → Bit (65535 - 2 ^ v) v → ⊥
 bit-all-but v h b =
-    let z : (65535 - 2 ^ v) / 2 ^ v % 2 ≡ 0 = eqb-true ((65535 - 2 ^ v) / 2 ^ v % 2) 0 (at-below (λ n. eqb ((65535 - 2 ^ n) / 2 ^ n % 2) 0) 16 refl v h) in
+    let z : (65535 - 2 ^ v) / 2 ^ v % 2 ≡ 0 = eqb-true ((65535 - 2 ^ v) / 2 ^ v % 2) 0 (every-true 16 (λ n. eqb ((65535 - 2 ^ n) / 2 ^ n % 2) 0) refl v h) in
     omega arith
 
 abbrev only : ℕ → ℕ → Bool
-only v u = either (eqb ((65535 - 2 ^ v) / 2 ^ u % 2) 1) (eqb u v)
+only v u = eqb ((65535 - 2 ^ v) / 2 ^ u % 2) 1 || eqb u v
 
 pub bit-only : (v u : ℕ) → v < 16 → u < 16 → (Bit (65535 - 2 ^ v) u → ⊥) → u ≡ v
 bit-only v u hv hu b =
-    elim (either-cases (eqb ((65535 - 2 ^ v) / 2 ^ u % 2) 1) (eqb u v)
-    (at-below (only v) 16 (at-below (λ n. below (only n) 16) 16 refl v hv) u hu)) [
+    elim (or-cases (eqb ((65535 - 2 ^ v) / 2 ^ u % 2) 1) (eqb u v)
+    (every-true 16 (only v) (every-true 16 (λ n. every 16 (only n)) refl v hv) u hu)) [
       | inl e ↦ absurd (b (eqb-true ((65535 - 2 ^ v) / 2 ^ u % 2) 1 e))
       | inr e ↦ eqb-true u v e
     ]
 
 -- the bits from s on
 abbrev from : ℕ → ℕ → Bool
-from s u = either (eqb ((65536 - 2 ^ s) / 2 ^ u % 2) 0) (leb s u)
+from s u = eqb ((65536 - 2 ^ s) / 2 ^ u % 2) 0 || leb s u
 
 pub bit-from : (s u : ℕ) → s ≤ 16 → u < 16 → Bit (65536 - 2 ^ s) u → s ≤ u
 bit-from s u hs hu b =
-    elim (either-cases (eqb ((65536 - 2 ^ s) / 2 ^ u % 2) 0) (leb s u)
-    (at-below (from s) 16 (at-below (λ n. below (from n) 16) 17 refl s (omega arith)) u hu)) [
+    elim (or-cases (eqb ((65536 - 2 ^ s) / 2 ^ u % 2) 0) (leb s u)
+    (every-true 16 (from s) (every-true 17 (λ n. every 16 (from n)) refl s (omega arith)) u hu)) [
       | inl e ↦ let z : (65536 - 2 ^ s) / 2 ^ u % 2 ≡ 0 = eqb-true ((65536 - 2 ^ s) / 2 ^ u % 2) 0 e in absurd (omega arith)
       | inr e ↦ leb-true s u e
     ]

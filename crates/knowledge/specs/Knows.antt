@@ -1,9 +1,10 @@
--- What propagation knows of one assignment c of codes to terms: equal labels mean equal codes, marked pairs have different codes, and a
--- term's code is not struck out in its word. Nothing known is all zeros, so more knowledge is more bits.
+-- The interface: what propagation knows of one assignment c of codes to terms. Equal labels mean equal codes, marked pairs have different
+-- codes, and a term's code is not struck out in its word. Nothing known is all zeros, so more knowledge is more bits.
 use Prim.Native.Nat.{ℕ, _<_, _+_, _*_, _/_, _%_, _^_}
 use mathlib.Core.Path.{_≡_}
 use mathlib.Core.List.{List}
-use Rattle.logic.specs.Structure.{at}
+use Rattle.prelude.specs.Limits.{mostTerms, mostCodes}
+use Rattle.prelude.specs.Lists.{at}
 
 -- bit v of the word w is set
 abbrev pub Bit : ℕ → ℕ → Type 0
@@ -11,15 +12,19 @@ Bit w v = w / 2 ^ v % 2 ≡ 1
 
 -- the label of a term is a term of the same code
 abbrev pub Labels : List ℕ → (ℕ → ℕ) → Type 0
-Labels l c = (i : ℕ) → i < 128 → c (at l i) ≡ c i
+Labels l c = (i : ℕ) → i < mostTerms → c (at l i) ≡ c i
 
 -- no term has a code that is struck out in its word
 abbrev pub Words : List ℕ → (ℕ → ℕ) → Type 0
 Words w c = (i : ℕ) → Bit (at w i) (c i) → ⊥
 
--- marks are 128 rows of 128 bits, two words to a row: the bit of column j in row i says that the codes of i and j differ
+-- the bits of a word of marks
+abbrev pub wordBits : ℕ
+wordBits = 64
+
+-- marks are a row of bits for each term, two words to a row: the bit of column j in row i says that the codes of i and j differ
 abbrev pub Marks : List ℕ → (ℕ → ℕ) → Type 0
-Marks m c = (x v : ℕ) → v < 64 → Bit (at m x) v → c (x / 2) ≡ c (x % 2 * 64 + v) → ⊥
+Marks m c = (x v : ℕ) → v < wordBits → Bit (at m x) v → c (x / 2) ≡ c (x % 2 * wordBits + v) → ⊥
 
 pub record Knows (l w m : List ℕ) (c : ℕ → ℕ) : Type 0 where
   pub labels : Labels l c
@@ -27,8 +32,8 @@ pub record Knows (l w m : List ℕ) (c : ℕ → ℕ) : Type 0 where
   pub marks : Marks m c
 
 -- codes of 0 to 15, which a word of 16 bits can tell apart
-abbrev pub Small : (ℕ → ℕ) → Type 0
-Small c = (i : ℕ) → c i < 16
+abbrev pub SmallCodes : (ℕ → ℕ) → Type 0
+SmallCodes c = (i : ℕ) → c i < mostCodes
 
 abbrev pub Same : ℕ → ℕ → (ℕ → ℕ) → Type 0
 Same a b c = c a ≡ c b
@@ -46,4 +51,4 @@ pub record Kept (If Before After : (ℕ → ℕ) → Type 0) : Type 0 where
 
 -- every code but v is struck out in w
 pub record Single (w v : ℕ) : Type 0 where
-  pub only : (u : ℕ) → u < 16 → (Bit w u → ⊥) → u ≡ v
+  pub only : (u : ℕ) → u < mostCodes → (Bit w u → ⊥) → u ≡ v

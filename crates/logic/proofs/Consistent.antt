@@ -3,12 +3,12 @@
 use Prim.Native.Nat.{ℕ, _≤_, _<_}
 use mathlib.Core.Path.{_≡_, refl, sym, ap, subst, fun-ext, _∙_}
 use mathlib.Core.Bool.{Bool, true, false, _&&_, false≢true}
-use mathlib.Core.Logic.{_⊎_, inl, inr}
 use native.Mathlib.Omega.{arith}
-use native.Mathlib.Decide.{decLt, ℕ-discrete}
+use native.Mathlib.Decide.{decLt}
 use lib.Dec.{ltb, eqb}
-use borrow.Author.Tests.{ltb-true, ltb-false, lt-ltb, le-ltb, eqb-true, eqb-false, eq-eqb, ne-eqb}
-use Rattle.logic.specs.Problem.{Problem, WellSorted, Consistent, Extends, undecided}
+use borrow.Author.Tests.{lt-ltb, le-ltb, eqb-true, eqb-false, eq-eqb, ne-eqb}
+use Rattle.prelude.specs.Tests.{if}
+use Rattle.logic.specs.Problem.{Problem, WellSorted, Consistent, Extends}
 
 module _ (P : Problem) where
   -- larger sizes keep codes consistent
@@ -37,14 +37,9 @@ module _ (P : Problem) where
 abbrev pub Unused : Problem → (ℕ → ℕ) → ℕ → ℕ → Type 0
 Unused P q s v = (j : ℕ) → j < P .terms → P .sort j ≡ s → q j ≡ v → ⊥
 
--- the first of two where the test holds, else the second
-abbrev pick : Bool → ℕ → ℕ → ℕ
-pick true x y = x
-pick false x y = y
-
 -- u and v change places
 abbrev exchange : ℕ → ℕ → ℕ → ℕ
-exchange u v x = pick (eqb x u) v (pick (eqb x v) u x)
+exchange u v x = if (eqb x u) v (if (eqb x v) u x)
 
 exchange-first : (u v : ℕ) → exchange u v u ≡ v
 exchange-first u v = rw (eq-eqb u u refl)
@@ -72,20 +67,20 @@ exchange-twice u v x = go (eqb x u) refl (eqb x v) refl
 exchange-below : (u v x n : ℕ) → u < n → v < n → x < n → exchange u v x < n
 exchange-below u v x n a b c = go (eqb x u) (eqb x v)
   where
-    go : (s t : Bool) → pick s v (pick t u x) < n
+    go : (s t : Bool) → if s v (if t u x) < n
     go true t = b
     go false true = a
     go false false = c
 
--- two uses of pick with one test are equal exactly when their arguments are
-pick-same : (u v a b : ℕ) (s t : Bool) → s ≡ t → a ≡ b → pick s (exchange u v a) a ≡ pick t (exchange u v b) b
-pick-same u v a b s t e h = rw (e, h)
+-- two uses of if with one test are equal exactly when their arguments are
+choice-same : (u v a b : ℕ) (s t : Bool) → s ≡ t → a ≡ b → if s (exchange u v a) a ≡ if t (exchange u v b) b
+choice-same u v a b s t e h = rw (e, h)
 
-pick-back : (u v a b : ℕ) (s t : Bool) → s ≡ t → pick s (exchange u v a) a ≡ pick t (exchange u v b) b → a ≡ b
-pick-back u v a b true true e h = sym (exchange-twice u v a) ∙ ap (exchange u v) h ∙ exchange-twice u v b
-pick-back u v a b true false e h = absurd (false≢true (sym e))
-pick-back u v a b false true e h = absurd (false≢true e)
-pick-back u v a b false false e h = h
+choice-back : (u v a b : ℕ) (s t : Bool) → s ≡ t → if s (exchange u v a) a ≡ if t (exchange u v b) b → a ≡ b
+choice-back u v a b true true e h = sym (exchange-twice u v a) ∙ ap (exchange u v) h ∙ exchange-twice u v b
+choice-back u v a b true false e h = absurd (false≢true (sym e))
+choice-back u v a b false true e h = absurd (false≢true e)
+choice-back u v a b false false e h = h
 
 module _ (P : Problem) (s u v : ℕ) where
   -- term i is there and of sort s
@@ -94,7 +89,7 @@ module _ (P : Problem) (s u v : ℕ) where
 
   -- the codes with u and v swapped in sort s
   unfoldable pub swapped : (ℕ → ℕ) → ℕ → ℕ
-  swapped c i = pick (member i) (exchange u v (c i)) (c i)
+  swapped c i = if (member i) (exchange u v (c i)) (c i)
 
   member-out : (i : ℕ) → P .terms ≤ i → member i ≡ false
   member-out i h = rw (le-ltb i (P .terms) h)
@@ -128,7 +123,7 @@ module _ (P : Problem) (s u v : ℕ) where
     unfolding swapped
     swapped-range i h = go (eqb (P .sort i) s) refl
       where
-        go : (b : Bool) → eqb (P .sort i) s ≡ b → pick (member i) (exchange u v (c i)) (c i) < size (P .sort i)
+        go : (b : Bool) → eqb (P .sort i) s ≡ b → if (member i) (exchange u v (c i)) (c i) < size (P .sort i)
         go true e =
             let f = eqb-true (P .sort i) s e in
             rw (member-in i h, e) (rw f (exchange-below u v (c i) (size s) lu lv (rw f at (k .range i h))))
@@ -142,19 +137,19 @@ module _ (P : Problem) (s u v : ℕ) where
           range = swapped-range;
           none = λ i h. rw (member-out i h) (k .none i h);
           congruent = λ i j hi hj e a b.
-              pick-same u v (c i) (c j) (member i) (member j) (alike-terms i j hi hj (w .result i j hi hj e))
+              choice-same u v (c i) (c j) (member i) (member j) (alike-terms i j hi hj (w .result i j hi hj e))
               (k .congruent i j hi hj e
-              (pick-back u v (c (P .arg0 i)) (c (P .arg0 j)) (member (P .arg0 i)) (member (P .arg0 j)) (alike0 i j hi hj e) a)
-              (pick-back u v (c (P .arg1 i)) (c (P .arg1 j)) (member (P .arg1 i)) (member (P .arg1 j)) (alike1 i j hi hj e) b));
+              (choice-back u v (c (P .arg0 i)) (c (P .arg0 j)) (member (P .arg0 i)) (member (P .arg0 j)) (alike0 i j hi hj e) a)
+              (choice-back u v (c (P .arg1 i)) (c (P .arg1 j)) (member (P .arg1 i)) (member (P .arg1 j)) (alike1 i j hi hj e) b));
           same = λ n h e.
               let l = w .left n h in
               let r = w .right n h in
-              pick-same u v (c (P .left n)) (c (P .right n)) (member (P .left n)) (member (P .right n)) (alike-terms (P .left n) (P .right n) l r (w .sides n h)) (k .same n h e);
+              choice-same u v (c (P .left n)) (c (P .right n)) (member (P .left n)) (member (P .right n)) (alike-terms (P .left n) (P .right n) l r (w .sides n h)) (k .same n h e);
           differ = λ n h e f.
               let l = w .left n h in
               let r = w .right n h in
               k .differ n h e
-              (pick-back u v (c (P .left n)) (c (P .right n)) (member (P .left n)) (member (P .right n)) (alike-terms (P .left n) (P .right n) l r (w .sides n h)) f);
+              (choice-back u v (c (P .left n)) (c (P .right n)) (member (P .left n)) (member (P .right n)) (alike-terms (P .left n) (P .right n) l r (w .sides n h)) f);
         }
 
   -- the codes that swapping leaves alone, and those that it exchanges
@@ -166,7 +161,7 @@ module _ (P : Problem) (s u v : ℕ) where
   unfolding swapped
   swapped-extends q c nu nv x i h d = go (eqb (P .sort i) s) refl
     where
-      go : (b : Bool) → eqb (P .sort i) s ≡ b → pick (member i) (exchange u v (c i)) (c i) ≡ q i
+      go : (b : Bool) → eqb (P .sort i) s ≡ b → if (member i) (exchange u v (c i)) (c i) ≡ q i
       go true e =
           let f = eqb-true (P .sort i) s e in
           let y = x i h d in

@@ -1,6 +1,5 @@
 pub mod Codes
-pub mod Sums
 pub mod Meaning
-pub mod OrderLaws
+pub mod Orders
 pub mod Consistent
 pub mod Decided

@@ -1,49 +1,18 @@
 -- The codes of terms under a structure: a term's code is its symbol's table at the codes of its arguments, it lies in range, and codes
--- with this property are the structure's own. With the first values of functions as lists.
+-- with this property are the structure's own.
 use Prim.Native.Nat.{ℕ, zero, suc, _+_, _≤_, _<_}
 use mathlib.Core.Path.{_≡_, refl, ap, ap₂, sym, _∙_, subst}
 use mathlib.Core.List.{List, [], _∷_, _++_, map}
 use lib.ListN.{length, getD, length-append, length-map, List·getD-append}
-use lib.Seq.{getD-append-seam, ext-getD}
-use native.Mathlib.Decide.{decLt}
+use lib.Seq.{getD-append-seam}
 use native.Mathlib.Omega.{arith}
+use Rattle.prelude.proofs.Lists.{map-each}
 use Rattle.logic.specs.Sheet.{Sheet, Term, symbolAt, termAt, sortAt}
-use Rattle.logic.specs.WellFormed.{WellFormed, Each}
-use Rattle.logic.specs.Structure.{Structure, InSorts, Interprets, at, codesFrom, codes, code, sumTo}
-use Rattle.logic.specs.Order.{firsts}
+use Rattle.prelude.specs.Tests.{Each}
+use Rattle.prelude.specs.Lists.{at}
+use Rattle.logic.specs.WellFormed.{WellFormed}
+use Rattle.logic.specs.Structure.{Structure, InSorts, Interprets, codesFrom, codes, code}
 
--- Lists of values of functions.
-pub map-each : (f g : ℕ → ℕ) (p : ℕ → Type 0) → ((a : ℕ) → p a → f a ≡ g a) → (l : List ℕ) → Each p l → map f l ≡ map g l
-map-each f g p h [] e = refl
-map-each f g p h (a ∷ l) e = ap₂ (λ (x : ℕ) (xs : List ℕ). x ∷ xs) (h a (e .0)) (map-each f g p h l (e .1))
-
-pub length-firsts : (n : ℕ) (f : ℕ → ℕ) → length (firsts n f) ≡ n
-length-firsts zero f = refl
-length-firsts (suc n) f = length-append (firsts n f) (f n ∷ []) ∙ omega (arith, length-firsts n f)
-
-pub at-firsts : (n : ℕ) (f : ℕ → ℕ) (i : ℕ) → i < n → at (firsts n f) i ≡ f i
-at-firsts zero f i h = absurd (omega arith)
-at-firsts (suc n) f i h =
-    let long : length (firsts n f) ≡ n = length-firsts n f in
-    elim (decLt i n) [
-      | yes l ↦ List·getD-append (firsts n f) (f n ∷ []) 0 i (omega arith) ∙ at-firsts n f i l
-      | no m ↦
-          let e : i ≡ length (firsts n f) = omega arith in
-          ap (at (firsts (suc n) f)) e ∙ getD-append-seam (firsts n f) (f n) [] 0 ∙ ap f (sym long ∙ sym e)
-    ]
-
-pub firsts-at : (n : ℕ) (l : List ℕ) → length l ≡ n → firsts n (at l) ≡ l
-firsts-at n l h = ext-getD 0 (firsts n (at l)) l (length-firsts n (at l) ∙ sym h) (λ i b. at-firsts n (at l) i (omega (arith, length-firsts n (at l))))
-
-pub firsts-same : (n : ℕ) (f g : ℕ → ℕ) → ((i : ℕ) → i < n → f i ≡ g i) → firsts n f ≡ firsts n g
-firsts-same zero f g h = refl
-firsts-same (suc n) f g h = ap₂ (λ (l : List ℕ) (x : ℕ). l ++ (x ∷ [])) (firsts-same n f g (λ i b. h i (omega arith))) (h n (omega arith))
-
-pub sumTo-same : (n : ℕ) (f g : ℕ → ℕ) → ((i : ℕ) → i < n → f i ≡ g i) → sumTo n f ≡ sumTo n g
-sumTo-same zero f g h = refl
-sumTo-same (suc n) f g h = ap₂ (λ (x y : ℕ). x + y) (sumTo-same n f g (λ i b. h i (omega arith))) (h n (omega arith))
-
--- The codes of a structure.
 abbrev tableAt : Structure → List ℕ → Term → ℕ
 tableAt M cs t = M .table (t .symbol) (map (at cs) (t .args))
 

@@ -1,22 +1,18 @@
--- Which answer comes first (document 01, "The words used here" and "Which answer").
-use Prim.Native.Nat.{ℕ, zero, suc, _≤_, _<_}
+-- The interface: which answer comes first (docs/FORMAT.md, "Which answer").
+use Prim.Native.Nat.{ℕ, _≤_, _<_}
 use mathlib.Core.Path.{_≡_}
 use mathlib.Core.Logic.{_⊎_}
-use mathlib.Core.List.{List, [], _∷_, _++_}
+use mathlib.Core.List.{List, [], _∷_}
 use lib.ListN.{length}
 use Rattle.logic.specs.Sheet.{Sheet}
-use Rattle.logic.specs.Structure.{Structure, codes, sumTo}
+use Rattle.prelude.specs.Lists.{sumTo, firsts}
+use Rattle.logic.specs.Structure.{Structure, codes}
 
 -- of two lists of one length, xs has the smaller entry at the first place where they differ: xs comes first
 abbrev pub Before : List ℕ → List ℕ → Type 0
 Before [] ys = ⊥
 Before (x ∷ xs) [] = ⊥
 Before (x ∷ xs) (y ∷ ys) = (x < y) ⊎ ((x ≡ y) × Before xs ys)
-
--- f 0, f 1, .. , f (n - 1)
-abbrev pub firsts : ℕ → (ℕ → ℕ) → List ℕ
-firsts zero f = []
-firsts (suc n) f = firsts n f ++ (f n ∷ [])
 
 -- the sizes of a structure's sorts, in the sheet's order, and their sum
 abbrev pub sizesOf : Structure → Sheet → List ℕ
@@ -33,7 +29,7 @@ Earlier sh M N =
     × (Before (sizesOf M sh) (sizesOf N sh) ⊎ ((sizesOf M sh ≡ sizesOf N sh) × Before (codes M sh) (codes N sh))))
 
 -- M comes no later than N: N has at least M's sum; where N's sum is the same, its sizes are the same or come later; where these are the
--- same, its codes are the same or come later. `no-later-exactly` of proofs/OrderLaws.antt: exactly when N does not come earlier.
+-- same, its codes are the same or come later. `no-later-exactly` of proofs/Orders.antt: exactly when N does not come earlier.
 pub record NoLater (sh : Sheet) (M N : Structure) : Type 0 where
   pub sum : sumOf M sh ≤ sumOf N sh
   pub sizes : sumOf N sh ≡ sumOf M sh → (sizesOf N sh ≡ sizesOf M sh) ⊎ Before (sizesOf M sh) (sizesOf N sh)

@@ -1,8 +1,9 @@
--- A sheet by functions of numbers, as the parsed arrays hold it, and what the search is about: codes of terms instead of tables.
--- A missing argument is a number past the terms, and its code is 0, so that arity plays no part.
+-- The interface: a sheet by functions of numbers, as the parsed arrays hold it, and what the search is about: codes of terms instead of
+-- tables. A missing argument is a number past the terms, and its code is 0, so that arity plays no part.
 use Prim.Native.Nat.{ℕ, _≤_, _<_}
 use mathlib.Core.Path.{_≡_}
-use Rattle.logic.specs.Structure.{sumTo}
+use Rattle.prelude.specs.Lists.{sumTo}
+use Rattle.prelude.specs.Limits.{undecided}
 use Rattle.logic.specs.Order.{NotAfter}
 
 pub record Problem : Type 0 where
@@ -43,11 +44,15 @@ pub record Allowed (P : Problem) (size : ℕ → ℕ) : Type 0 where
   pub ceiling : (s : ℕ) → s < P .sorts → size s ≤ P .ceiling s
   pub total : sumTo (P .sorts) size ≤ P .total
 
+-- of the first n terms, those of one symbol with equal argument codes have equal codes
+abbrev pub Congruent : ℕ → (ℕ → ℕ) → (ℕ → ℕ) → (ℕ → ℕ) → (ℕ → ℕ) → Type 0
+Congruent n symbol arg0 arg1 c = (i j : ℕ) → i < n → j < n → symbol i ≡ symbol j → c (arg0 i) ≡ c (arg0 j) → c (arg1 i) ≡ c (arg1 j) → c i ≡ c j
+
 -- codes of terms that some structure of these sizes gives, and that meet every statement
 pub record Consistent (P : Problem) (size c : ℕ → ℕ) : Type 0 where
   pub range : (i : ℕ) → i < P .terms → c i < size (P .sort i)
   pub none : (i : ℕ) → P .terms ≤ i → c i ≡ 0
-  pub congruent : (i j : ℕ) → i < P .terms → j < P .terms → P .symbol i ≡ P .symbol j → c (P .arg0 i) ≡ c (P .arg0 j) → c (P .arg1 i) ≡ c (P .arg1 j) → c i ≡ c j
+  pub congruent : Congruent (P .terms) (P .symbol) (P .arg0) (P .arg1) c
   pub same : (k : ℕ) → k < P .literals → P .equal k ≡ 1 → c (P .left k) ≡ c (P .right k)
   pub differ : (k : ℕ) → k < P .literals → P .equal k ≡ 0 → c (P .left k) ≡ c (P .right k) → ⊥
 
@@ -63,11 +68,7 @@ pub record Least (P : Problem) (size c : ℕ → ℕ) : Type 0 where
   pub sizes : (size′ c′ : ℕ → ℕ) → Allowed P size′ → Consistent P size′ c′ → sumTo (P .sorts) size′ ≡ sumTo (P .sorts) size → NotAfter (P .sorts) size size′
   pub codes : (c′ : ℕ → ℕ) → Consistent P size c′ → NotAfter (P .terms) c c′
 
--- The code that stands for "not decided" in a list of decided codes; no size is above 16, so that no term has it.
-abbrev pub undecided : ℕ
-undecided = 255
-
--- the codes c keep to what q decides
+-- the codes c keep to what q decides; a term whose code is not decided has the number `undecided`, which is no code
 abbrev pub Extends : Problem → (ℕ → ℕ) → (ℕ → ℕ) → Type 0
 Extends P q c = (i : ℕ) → i < P .terms → (q i ≡ undecided → ⊥) → c i ≡ q i
 

@@ -1,26 +1,26 @@
--- A sheet as its records say it: lists in the order of the records, so that a number in a record is a place in a list
--- (document 01, "The words used here" and "The sheet").
+-- The interface: a sheet as its records say it: lists in the order of the records, so that a number in a record is a place in a list
+-- (docs/FORMAT.md, "The words used here" and "The sheet").
 use Prim.Native.Nat.{ℕ}
 use mathlib.Core.Bool.{Bool, true}
 use mathlib.Core.List.{List, []}
 use lib.ListN.{getD}
 
--- the limits of a sort (document 01: field): the least and the greatest number of its codes
+-- the limits of a sort (in the format's words: field): the least and the greatest number of its codes
 pub record Bound : Type 0 where
   pub floor : ℕ
   pub ceiling : ℕ
 
--- a function symbol (document 01: name): the sort that it gives, and the sorts that it takes
+-- a function symbol (name): the sort that it gives, and the sorts that it takes
 pub record Symbol : Type 0 where
   pub result : ℕ
   pub params : List ℕ
 
--- a ground term (document 01: expression): a symbol applied to earlier terms
+-- a ground term (expression): a symbol applied to earlier terms
 pub record Term : Type 0 where
   pub symbol : ℕ
   pub args : List ℕ
 
--- a literal (document 01: statement): that two terms are the same, or that they differ
+-- a literal (statement): that two terms are the same, or that they differ
 pub record Literal : Type 0 where
   pub equal : Bool
   pub left : ℕ

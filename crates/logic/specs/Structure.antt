@@ -1,13 +1,14 @@
--- Many-sorted structures and what they make true (document 01, "The words used here"; source 001, section 2: many-sorted
--- structures with non-empty domains). Sizes are any numbers here: the limits of a sheet enter with `Candidate` alone.
-use Prim.Native.Nat.{ℕ, zero, suc, _≤_, _<_, _+_}
+-- The interface: many-sorted structures and what they make true (docs/FORMAT.md, "The words used here"), with non-empty domains. Sizes are
+-- any numbers here: the limits of a sheet enter with `Candidate` alone.
+use Prim.Native.Nat.{ℕ, _≤_, _<_, _+_}
 use mathlib.Core.Path.{_≡_}
 use mathlib.Core.Bool.{Bool, true, false}
 use mathlib.Core.List.{List, [], _∷_, _++_, map}
-use lib.ListN.{length, getD}
-use Rattle.logic.specs.Sheet.{Sheet, Bound, Symbol, Term, Literal, boundAt, symbolAt, literalAt}
+use lib.ListN.{length}
+use Rattle.prelude.specs.Lists.{at, sumTo}
+use Rattle.logic.specs.Sheet.{Sheet, Term, Literal, boundAt, symbolAt, literalAt}
 
--- a structure (document 01: interpretation): how many codes each sort has, and what each symbol's table holds at a list of
+-- a structure (in the format's words: interpretation): how many codes each sort has, and what each symbol's table holds at a list of
 -- argument codes
 pub record Structure : Type 0 where
   pub size : ℕ → ℕ
@@ -25,10 +26,6 @@ InSorts size (s ∷ ss) (c ∷ cs) = (c < size s) × InSorts size ss cs
 pub record Interprets (M : Structure) (sh : Sheet) : Type 0 where
   pub nonempty : (s : ℕ) → s < length (sh .bounds) → 1 ≤ M .size s
   pub complete : (f : ℕ) → f < length (sh .symbols) → (cs : List ℕ) → InSorts (M .size) (symbolAt sh f .params) cs → M .table f cs < M .size (symbolAt sh f .result)
-
--- what stands in a list of codes at a place
-abbrev pub at : List ℕ → ℕ → ℕ
-at l i = getD l i 0
 
 -- the codes of a list of terms, those of the terms before them being cs: each term's code is what its symbol's table holds at
 -- the codes of its arguments
@@ -61,13 +58,7 @@ Satisfies M sh = (k : ℕ) → k < length (sh .literals) → Holds (code M sh) (
 abbrev pub SatisfiesSame : Structure → Sheet → Type 0
 SatisfiesSame M sh = (k : ℕ) → k < length (sh .literals) → literalAt sh k .equal ≡ true → Holds (code M sh) (literalAt sh k)
 
--- f 0 + f 1 + .. + f (n - 1)
-abbrev pub sumTo : ℕ → (ℕ → ℕ) → ℕ
-sumTo zero f = 0
-sumTo (suc n) f = sumTo n f + f n
-
--- the sizes lie from floor to ceiling (source 000, Definition 1) and sum to at most the total (its signature cardinality
--- constraint)
+-- the sizes lie from floor to ceiling and sum to at most the total
 pub record Bounded (sh : Sheet) (size : ℕ → ℕ) : Type 0 where
   pub floor : (s : ℕ) → s < length (sh .bounds) → boundAt sh s .floor ≤ size s
   pub ceiling : (s : ℕ) → s < length (sh .bounds) → size s ≤ boundAt sh s .ceiling

@@ -1,29 +1,25 @@
--- What holds of every accepted sheet. Later layers cite these fields and not the text of the layout.
+-- The interface: what good records make of a sheet, and what holds of every accepted one. Later layers cite these fields and not the text
+-- of the layout.
 use Prim.Native.Nat.{ℕ, _≤_, _<_}
 use mathlib.Core.Path.{_≡_}
-use mathlib.Core.List.{List, [], _∷_, map}
+use mathlib.Core.List.{map}
 use lib.ListN.{length}
-use Rattle.logic.specs.Sheet.{Sheet, Bound, Symbol, Term, Literal, boundAt, symbolAt, termAt, literalAt, sortAt}
+use Rattle.prelude.specs.Tests.{Each, Within}
+use Rattle.prelude.specs.Limits.{mostSorts, mostSymbols, mostTerms, mostLiterals, mostCodes, mostTotal}
+use Rattle.logic.specs.Sheet.{Sheet, boundAt, symbolAt, termAt, literalAt, sortAt}
 
--- p holds of each entry of a list
-abbrev pub Each : (ℕ → Type 0) → List ℕ → Type 0
-Each p [] = Unit
-Each p (x ∷ xs) = p x × Each p xs
-
--- a number from lo to hi
-abbrev pub Within : ℕ → ℕ → ℕ → Type 0
-Within lo hi n = (lo ≤ n) × (n ≤ hi)
-
-pub record WellFormed (sh : Sheet) : Type 0 where
-  -- the counts are within the limits, and there is a sort
-  pub sorts : Within 1 8 (length (sh .bounds))
-  pub symbols : length (sh .symbols) ≤ 64
-  pub terms : length (sh .terms) ≤ 128
-  pub literals : length (sh .literals) ≤ 128
+-- A sheet whose records are good, whole or in part: what each record brings with it, and what holds at this stage of reading.
+pub record Formed (Stage : Sheet → Type 0) (sh : Sheet) : Type 0 where
+  pub stage : Stage sh
+  -- the counts are within the limits
+  pub sorts : length (sh .bounds) ≤ mostSorts
+  pub symbols : length (sh .symbols) ≤ mostSymbols
+  pub terms : length (sh .terms) ≤ mostTerms
+  pub literals : length (sh .literals) ≤ mostLiterals
   -- floors, ceilings and total are in range; a floor may be above its ceiling
-  pub floor : (s : ℕ) → s < length (sh .bounds) → Within 1 16 (boundAt sh s .floor)
-  pub ceiling : (s : ℕ) → s < length (sh .bounds) → Within 1 16 (boundAt sh s .ceiling)
-  pub total : Within 1 128 (sh .total)
+  pub floor : (s : ℕ) → s < length (sh .bounds) → Within 1 mostCodes (boundAt sh s .floor)
+  pub ceiling : (s : ℕ) → s < length (sh .bounds) → Within 1 mostCodes (boundAt sh s .ceiling)
+  pub total : sh .total ≤ mostTotal
   -- a symbol gives a sort that is there, and takes at most two that are there
   pub result : (f : ℕ) → f < length (sh .symbols) → symbolAt sh f .result < length (sh .bounds)
   pub params : (f : ℕ) → f < length (sh .symbols) → Each (λ s. s < length (sh .bounds)) (symbolAt sh f .params)
@@ -37,3 +33,11 @@ pub record WellFormed (sh : Sheet) : Type 0 where
   pub left : (k : ℕ) → k < length (sh .literals) → literalAt sh k .left < length (sh .terms)
   pub right : (k : ℕ) → k < length (sh .literals) → literalAt sh k .right < length (sh .terms)
   pub sides : (k : ℕ) → k < length (sh .literals) → sortAt sh (literalAt sh k .left) ≡ sortAt sh (literalAt sh k .right)
+
+-- at the end of a sheet a sort is there, and a total
+abbrev pub Ended : Sheet → Type 0
+Ended sh = (1 ≤ length (sh .bounds)) × (1 ≤ sh .total)
+
+-- what holds of every accepted sheet
+abbrev pub WellFormed : Sheet → Type 0
+WellFormed sh = Formed Ended sh

@@ -1,2 +1,2 @@
-pub mod Knowledge
-pub mod Start
+pub mod Propagated
+pub mod Parts

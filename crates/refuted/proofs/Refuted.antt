@@ -1,4 +1,4 @@
--- None of the wrong programs of document 01, "Contracts owed", c, meets its contract. A worked sheet refutes most of them: what the contract
+-- None of the wrong programs of docs/CONTRACTS.md, "Contracts owed", c, meets its contract. A worked sheet refutes most of them: what the contract
 -- says of it is not what the wrong program does. An 11 before looking and an invented sum are refuted at every call, by demand 3.
 use Prim.Native.Nat.{ℕ, _≤_, _<_}
 use native.Mathlib.Decide.{decLt}
@@ -10,8 +10,8 @@ use lib.ListN.{length}
 use lib.Dec.{lit<, lit≤}
 use lib.Seq.{getD-take}
 use Rattle.logic.specs.Sheet.{Sheet}
-use Rattle.logic.specs.Structure.{at, sumTo}
-use Rattle.logic.proofs.Meaning.{sumTo-same}
+use Rattle.prelude.specs.Lists.{at, sumTo}
+use Rattle.prelude.proofs.Lists.{sumTo-same}
 use Rattle.sheet.specs.Layout.{Reading, accepted, refused, reading, readFrom, cause}
 use Rattle.sheet.specs.Packed.{verdict}
 use Rattle.sheet.specs.declared.Verdict.the-variants as verdicts

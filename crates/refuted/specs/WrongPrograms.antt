@@ -1,13 +1,13 @@
--- The wrong programs of document 01, "Contracts owed", c, in the paper's order. A program is what it gives back, and leaves in the buffers, for
--- every call; to meet a contract is to do so at every call. `refuted` of proofs/Refuted.antt: none of these meets the contract of its
--- question.
+-- The interface: the wrong programs of docs/CONTRACTS.md, "Contracts owed", c, in that order. A program is what it gives back, and leaves
+-- in the buffers, for every call; to meet a contract is to do so at every call. `refuted` of proofs/Refuted.antt: none of these meets the
+-- contract of its question.
 use Prim.Native.Nat.{ℕ, _≤_, _<_}
 use mathlib.Core.Path.{_≡_}
 use mathlib.Core.Bool.{true}
 use mathlib.Core.List.{List}
 use lib.ListN.{length}
 use Rattle.logic.specs.Sheet.{Sheet, sortAt}
-use Rattle.logic.specs.Structure.{at, sumTo}
+use Rattle.prelude.specs.Lists.{at, sumTo}
 use Rattle.sheet.specs.Layout.{accepted, reading}
 use Rattle.sheet.specs.Packed.{verdict}
 use Rattle.sheet.specs.declared.Verdict.{Verdict}

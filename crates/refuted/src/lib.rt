@@ -1,2 +1,2 @@
-// Definitions and laws only (specs/, proofs/): the wrong programs of document 01, "Contracts owed", c, and that no program that meets its
+// Definitions and laws only (specs/, proofs/): the wrong programs of docs/CONTRACTS.md, "Contracts owed", c, and that no program that meets its
 // contract is one of them.

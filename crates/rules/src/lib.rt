@@ -1,6 +1,7 @@
 // The rules of propagation, each a pass over all terms that adds knowledge. A rule is an optional inference: a pass promises that what
 // was true of an assignment stays true, and which pairs of terms it tries is free.
-use knowledge::MOST;
+use knowledge::MARK_WORDS;
+use knowledge::WORD_BITS;
 use knowledge::apart;
 use knowledge::join;
 use knowledge::label;
@@ -9,82 +10,42 @@ use knowledge::mark;
 use knowledge::marked;
 use knowledge::single;
 use knowledge::strike;
-use knowledge::wide;
 use knowledge::word;
-ghost use Prim.Native.Nat.{_≤_, _<_};
-ghost use Rattle.logic.specs.Structure.{at};
-ghost use Rattle.knowledge.specs.Knows.{Labels, Words, Marks, Knows, Small, Same, Means, Kept};
-ghost use Rattle.rules.specs.Reasons.{Congruent, Told, Given, Lawful, Settled};
+use prelude::BYTE_VALUES;
+use prelude::MISSING;
+use prelude::MOST_CODES;
+use prelude::MOST_SORTS;
+use prelude::MOST_TERMS;
+use prelude::wide;
+ghost use Prim.Native.Nat.{_*_, _≤_, _<_};
+ghost use Rattle.prelude.specs.Limits.{mostSorts, mostTerms, mostCodes};
+ghost use Rattle.prelude.specs.Lists.{at};
+ghost use Rattle.knowledge.specs.Knows.{Labels, Words, Marks, Knows, SmallCodes, Same, Means, Kept};
+ghost use Rattle.logic.specs.Problem.{Congruent};
+ghost use Rattle.rules.specs.Reasons.{SmallMarks, LawfulGrouped};
+ghost use Rattle.rules.specs.Parts.{CodeMarks};
 
-// R2 of two terms: with the same single code left they are one group.
-fn same_code(
-    labels: &mut [u8; 128],
-    words: &mut [u16; 128],
-    marks: &mut [u64; 256],
-    i: usize,
-    j: usize,
-) -> bool
-    ensures { λ _. ⌜ Kept Small (Knows (now (labels .entry)) (now (words .entry)) (now (marks .entry))) (Knows (now (labels .exit)) (now (words .exit)) (now (marks .exit))) ⌝ }
-{
-    let v = single(word(words, i));
-    if 16 <= v {
-        return false;
-    }
-    let u = single(word(words, j));
-    if u != v {
-        return false;
-    }
-    join(labels, words, marks, i, j)
-}
+// Stands where there is no term yet.
+const NO_TERM: u8 = 255;
 
-// The place for the code v of a sort among the groups with a single code.
-fn place(sort: u8, v: usize) -> usize
-    requires { ⌜ v < 16 ⌝ }
-    ensures { λ r. ⌜ r < 128 ⌝ }
-{
-    wide(sort) % 8 * 16 + v
-}
+// Places for the groups with a single code: one for each code of each sort.
+const PLACES: usize = MOST_SORTS * MOST_CODES;
 
-// R2 of one group: joins it to the group met before with its single code, or notes it as the first.
-fn meet_single(
-    labels: &mut [u8; 128],
-    words: &mut [u16; 128],
-    marks: &mut [u64; 256],
-    first: &mut [u8; 128],
-    sort: u8,
-    i: usize,
-) -> bool
-    requires { ⌜ i < 128 ⌝ }
-    ensures { λ _. ⌜ Kept Small (Knows (now (labels .entry)) (now (words .entry)) (now (marks .entry))) (Knows (now (labels .exit)) (now (words .exit)) (now (marks .exit))) ⌝ }
-{
-    if label(labels, i) != i {
-        return false;
-    }
-    let v = single(word(words, i));
-    if 16 <= v {
-        return false;
-    }
-    let k = place(sort, v);
-    let j = wide(first[k]);
-    if j == 255 {
-        first[k] = i as u8;
-        return false;
-    }
-    same_code(labels, words, marks, j, i)
-}
+// The length of the tables that terms are looked up in by a number made of their symbol and arguments.
+const SLOTS: usize = 256;
 
 // R2: groups of one sort with the same single code left are one.
 pub fn join_singles(
-    labels: &mut [u8; 128],
-    words: &mut [u16; 128],
-    marks: &mut [u64; 256],
-    sort: &[u8; 128],
+    labels: &mut [u8; MOST_TERMS],
+    words: &mut [u16; MOST_TERMS],
+    marks: &mut [u64; MARK_WORDS],
+    sort: &[u8; MOST_TERMS],
     n: usize,
 ) -> bool
-    requires { ⌜ n ≤ 128 ⌝ }
-    ensures { λ _. ⌜ Kept Small (Knows (now (labels .entry)) (now (words .entry)) (now (marks .entry))) (Knows (now (labels .exit)) (now (words .exit)) (now (marks .exit))) ⌝ }
+    requires { ⌜ n ≤ mostTerms ⌝ }
+    ensures { λ _. ⌜ Kept SmallCodes (Knows (now (labels .entry)) (now (words .entry)) (now (marks .entry))) (Knows (now (labels .exit)) (now (words .exit)) (now (marks .exit))) ⌝ }
 {
-    let mut first = [255u8; 128];
+    let mut first = [NO_TERM; PLACES];
     let mut news = false;
     let mut i: usize = 0;
     while i < n {
@@ -94,131 +55,23 @@ pub fn join_singles(
     news
 }
 
-// The label of an argument of a term.
-fn argument<'a>(labels: &'a [u8; 128], args: &'a [u8; 128], i: usize) -> usize
-    requires { ⌜ i < 128 ⌝ }
-    ensures { λ r. ⌜ Means (Labels (now (labels .entry))) (Same r (at (now (args .entry)) i)) ⌝ }
-{
-    label(labels, wide(args[i]))
-}
-
-// R3 of two terms: one symbol and equal argument labels, so they are one group.
-fn congruent<'a>(
-    labels: &mut [u8; 128],
-    words: &mut [u16; 128],
-    marks: &mut [u64; 256],
-    symbol: &'a [u8; 128],
-    arg0: &'a [u8; 128],
-    arg1: &'a [u8; 128],
-    n: usize,
-    i: usize,
-    j: usize,
-) -> bool
-    requires { ⌜ (n ≤ 128) × (i < n) ⌝ }
-    ensures { λ _. ⌜ Kept (Congruent n (now (symbol .entry)) (now (arg0 .entry)) (now (arg1 .entry))) (Knows (now (labels .entry)) (now (words .entry)) (now (marks .entry))) (Knows (now (labels .exit)) (now (words .exit)) (now (marks .exit))) ⌝ }
-{
-    if n <= j {
-        return false;
-    }
-    let f = symbol[i];
-    let g = symbol[j];
-    if f != g {
-        return false;
-    }
-    if argument(labels, arg0, i) != argument(labels, arg0, j) {
-        return false;
-    }
-    if argument(labels, arg1, i) != argument(labels, arg1, j) {
-        return false;
-    }
-    join(labels, words, marks, i, j)
-}
-
-// The symbol and the argument labels of a term as one number.
-fn key<'a>(
-    labels: &'a [u8; 128],
-    symbol: &'a [u8; 128],
-    arg0: &'a [u8; 128],
-    arg1: &'a [u8; 128],
-    i: usize,
-) -> usize
-    requires { ⌜ i < 128 ⌝ }
-    ensures { λ r. ⌜ r < 16777216 ⌝ }
-{
-    let a = argument(labels, arg0, i) % 256;
-    let b = argument(labels, arg1, i) % 256;
-    wide(symbol[i]) * 65536 + a * 256 + b
-}
-
-// Where a key stands in the table of the terms met so far, or the free place for it.
-fn find<'a>(table: &'a [u8; 256], keys: &'a [u32; 256], k: u32) -> usize
-    ensures { λ r. ⌜ r < 256 ⌝ }
-{
-    let mut h: usize = ((k / 65536 * 31 + k / 256 % 256 * 17 + k % 256 * 101) % 256) as usize;
-    let mut tried: usize = 0;
-    while tried < 256 {
-        if table[h] == 255 {
-            return h;
-        }
-        if keys[h] == k {
-            return h;
-        }
-        h = (h + 1) % 256;
-        tried += 1;
-    }
-    h
-}
-
-// R3 of one term: joins it to the term met before with its key, or notes it as the first.
-fn meet_key<'a>(
-    labels: &mut [u8; 128],
-    words: &mut [u16; 128],
-    marks: &mut [u64; 256],
-    table: &mut [u8; 256],
-    keys: &mut [u32; 256],
-    fresh: &mut [u8; 128],
-    symbol: &'a [u8; 128],
-    arg0: &'a [u8; 128],
-    arg1: &'a [u8; 128],
-    n: usize,
-    i: usize,
-) -> bool
-    requires { ⌜ (n ≤ 128) × (i < n) ⌝ }
-    ensures { λ _. ⌜ Kept (Congruent n (now (symbol .entry)) (now (arg0 .entry)) (now (arg1 .entry))) (Knows (now (labels .entry)) (now (words .entry)) (now (marks .entry))) (Knows (now (labels .exit)) (now (words .exit)) (now (marks .exit))) ⌝ }
-{
-    if arg0[i] == 255 {
-        return false;
-    }
-    let k = key(labels, symbol, arg0, arg1, i) as u32;
-    let h = find(table, keys, k);
-    let j = wide(table[h]);
-    if j == 255 {
-        table[h] = i as u8;
-        keys[h] = k;
-        fresh[i] = 1;
-        return false;
-    }
-    fresh[i] = 0;
-    congruent(labels, words, marks, symbol, arg0, arg1, n, i, j)
-}
-
 // R3: terms of one symbol whose arguments have equal labels are one group; fresh becomes 1 at the first of each such group and 0
 // at the others.
 pub fn join_congruent<'a>(
-    labels: &mut [u8; 128],
-    words: &mut [u16; 128],
-    marks: &mut [u64; 256],
-    fresh: &mut [u8; 128],
-    symbol: &'a [u8; 128],
-    arg0: &'a [u8; 128],
-    arg1: &'a [u8; 128],
+    labels: &mut [u8; MOST_TERMS],
+    words: &mut [u16; MOST_TERMS],
+    marks: &mut [u64; MARK_WORDS],
+    fresh: &mut [u8; MOST_TERMS],
+    symbol: &'a [u8; MOST_TERMS],
+    arg0: &'a [u8; MOST_TERMS],
+    arg1: &'a [u8; MOST_TERMS],
     n: usize,
 ) -> bool
-    requires { ⌜ n ≤ 128 ⌝ }
-    ensures { λ _. ⌜ Kept (Congruent n (now (symbol .entry)) (now (arg0 .entry)) (now (arg1 .entry))) (Knows (now (labels .entry)) (now (words .entry)) (now (marks .entry))) (Knows (now (labels .exit)) (now (words .exit)) (now (marks .exit))) ⌝ }
+    requires { ⌜ n ≤ mostTerms ⌝ }
+    ensures { λ _. ⌜ Kept (Congruent n (at (now (symbol .entry))) (at (now (arg0 .entry))) (at (now (arg1 .entry)))) (Knows (now (labels .entry)) (now (words .entry)) (now (marks .entry))) (Knows (now (labels .exit)) (now (words .exit)) (now (marks .exit))) ⌝ }
 {
-    let mut table = [255u8; 256];
-    let mut keys = [0u32; 256];
+    let mut table = [NO_TERM; SLOTS];
+    let mut keys = [0u32; SLOTS];
     let mut news = false;
     let mut i: usize = 0;
     while i < n {
@@ -241,62 +94,15 @@ pub fn join_congruent<'a>(
     news
 }
 
-// R5 of two groups: k cannot have the code v of a group g that it is marked against.
-fn strike_one(words: &mut [u16; 128], marks: &[u64; 256], g: usize, v: usize, k: usize) -> bool
-    requires { ⌜ v < 16 ⌝ }
-    ensures { λ _. ⌜ Kept (Given (now (marks .entry)) g v) (Words (now (words .entry))) (Words (now (words .exit))) ⌝ }
-{
-    if marked(marks, g, k) {
-        return strike(words, k, 1u16 << v);
-    }
-    false
-}
-
-// R5 of one group and half of the groups marked against it.
-fn strike_half(words: &mut [u16; 128], marks: &[u64; 256], g: usize, v: usize, half: usize) -> bool
-    requires { ⌜ (v < 16) × ((g < 128) × (half < 2)) ⌝ }
-    ensures { λ _. ⌜ Kept (Given (now (marks .entry)) g v) (Words (now (words .entry))) (Words (now (words .exit))) ⌝ }
-{
-    let mut rest: u64 = marks[2 * g + half];
-    let mut news = false;
-    while 0 < rest {
-        news = strike_one(words, marks, g, v, half * 64 + lowest(rest)) | news;
-        rest = rest & (rest - 1);
-    }
-    news
-}
-
-// R5 of one group: a single code left is struck out in the groups marked against it.
-fn strike_row<'a>(
-    words: &mut [u16; 128],
-    labels: &'a [u8; 128],
-    marks: &'a [u64; 256],
-    g: usize,
-) -> bool
-    requires { ⌜ g < 128 ⌝ }
-    ensures { λ _. ⌜ Kept (Told (now (marks .entry))) (Words (now (words .entry))) (Words (now (words .exit))) ⌝ }
-{
-    if label(labels, g) != g {
-        return false;
-    }
-    let v = single(word(words, g));
-    if 16 <= v {
-        return false;
-    }
-    let low = strike_half(words, marks, g, v, 0);
-    let high = strike_half(words, marks, g, v, 1);
-    low | high
-}
-
 // R5: a group with one code left takes it out of the groups marked against it.
 pub fn strike_marked<'a>(
-    words: &mut [u16; 128],
-    labels: &'a [u8; 128],
-    marks: &'a [u64; 256],
+    words: &mut [u16; MOST_TERMS],
+    labels: &'a [u8; MOST_TERMS],
+    marks: &'a [u64; MARK_WORDS],
     n: usize,
 ) -> bool
-    requires { ⌜ n ≤ 128 ⌝ }
-    ensures { λ _. ⌜ Kept (Told (now (marks .entry))) (Words (now (words .entry))) (Words (now (words .exit))) ⌝ }
+    requires { ⌜ n ≤ mostTerms ⌝ }
+    ensures { λ _. ⌜ Kept (SmallMarks (now (marks .entry))) (Words (now (words .entry))) (Words (now (words .exit))) ⌝ }
 {
     let mut news = false;
     let mut i: usize = 0;
@@ -307,24 +113,269 @@ pub fn strike_marked<'a>(
     news
 }
 
-// For each fresh term that has the argument `there`, the nearest earlier one with the same symbol and the same label of the argument
-// `by`, 255 where there is none; now and then one with another label.
-fn buckets<'a>(
-    labels: &'a [u8; 128],
-    symbol: &'a [u8; 128],
-    there: &'a [u8; 128],
-    by: &'a [u8; 128],
-    fresh: &'a [u8; 128],
+// R4: where the results of one symbol differ and all argument pairs but one are equal, that pair differs. The terms to compare with share
+// the second argument, or the lack of one, or the first.
+pub fn mark_arguments<'a>(
+    marks: &mut [u64; MARK_WORDS],
+    labels: &'a [u8; MOST_TERMS],
+    words: &'a [u16; MOST_TERMS],
+    symbol: &'a [u8; MOST_TERMS],
+    arg0: &'a [u8; MOST_TERMS],
+    arg1: &'a [u8; MOST_TERMS],
+    fresh: &'a [u8; MOST_TERMS],
     n: usize,
-) -> [u8; 128]
-    requires { ⌜ n ≤ 128 ⌝ }
+) -> bool
+    requires { ⌜ n ≤ mostTerms ⌝ }
+    ensures { λ _. ⌜ Kept (LawfulGrouped n (now (symbol .entry)) (now (arg0 .entry)) (now (arg1 .entry)) (now (labels .entry)) (now (words .entry))) (Marks (now (marks .entry))) (Marks (now (marks .exit))) ⌝ }
 {
-    let mut earlier = [255u8; 128];
-    let mut last = [255u8; 256];
+    let firsts = buckets(labels, symbol, arg0, arg1, fresh, n);
+    let news = contrapose_all(marks, labels, words, symbol, arg0, arg1, &firsts, n);
+    let seconds = buckets(labels, symbol, arg1, arg0, fresh, n);
+    contrapose_all(marks, labels, words, symbol, arg0, arg1, &seconds, n) | news
+}
+
+// R2 of two terms: with the same single code left they are one group.
+fn same_code(
+    labels: &mut [u8; MOST_TERMS],
+    words: &mut [u16; MOST_TERMS],
+    marks: &mut [u64; MARK_WORDS],
+    i: usize,
+    j: usize,
+) -> bool
+    ensures { λ _. ⌜ Kept SmallCodes (Knows (now (labels .entry)) (now (words .entry)) (now (marks .entry))) (Knows (now (labels .exit)) (now (words .exit)) (now (marks .exit))) ⌝ }
+{
+    let v = single(word(words, i));
+    if MOST_CODES <= v {
+        return false;
+    }
+    let u = single(word(words, j));
+    if u != v {
+        return false;
+    }
+    join(labels, words, marks, i, j)
+}
+
+// The place for the code v of a sort among the groups with a single code.
+fn place_of(sort: u8, v: usize) -> usize
+    requires { ⌜ v < mostCodes ⌝ }
+    ensures { λ r. ⌜ r < mostSorts * mostCodes ⌝ }
+{
+    wide(sort) % MOST_SORTS * MOST_CODES + v
+}
+
+// R2 of one group: joins it to the group met before with its single code, or notes it as the first.
+fn meet_single(
+    labels: &mut [u8; MOST_TERMS],
+    words: &mut [u16; MOST_TERMS],
+    marks: &mut [u64; MARK_WORDS],
+    first: &mut [u8; PLACES],
+    sort: u8,
+    i: usize,
+) -> bool
+    requires { ⌜ i < mostTerms ⌝ }
+    ensures { λ _. ⌜ Kept SmallCodes (Knows (now (labels .entry)) (now (words .entry)) (now (marks .entry))) (Knows (now (labels .exit)) (now (words .exit)) (now (marks .exit))) ⌝ }
+{
+    if label(labels, i) != i {
+        return false;
+    }
+    let v = single(word(words, i));
+    if MOST_CODES <= v {
+        return false;
+    }
+    let k = place_of(sort, v);
+    let j = first[k];
+    if j == NO_TERM {
+        first[k] = i as u8;
+        return false;
+    }
+    same_code(labels, words, marks, wide(j), i)
+}
+
+// The label of an argument of a term.
+fn argument<'a>(labels: &'a [u8; MOST_TERMS], args: &'a [u8; MOST_TERMS], i: usize) -> usize
+    requires { ⌜ i < mostTerms ⌝ }
+    ensures { λ r. ⌜ Means (Labels (now (labels .entry))) (Same r (at (now (args .entry)) i)) ⌝ }
+{
+    label(labels, wide(args[i]))
+}
+
+// R3 of two terms: one symbol and equal argument labels, so they are one group.
+fn congruent<'a>(
+    labels: &mut [u8; MOST_TERMS],
+    words: &mut [u16; MOST_TERMS],
+    marks: &mut [u64; MARK_WORDS],
+    symbol: &'a [u8; MOST_TERMS],
+    arg0: &'a [u8; MOST_TERMS],
+    arg1: &'a [u8; MOST_TERMS],
+    n: usize,
+    i: usize,
+    j: usize,
+) -> bool
+    requires { ⌜ (n ≤ mostTerms) × (i < n) ⌝ }
+    ensures { λ _. ⌜ Kept (Congruent n (at (now (symbol .entry))) (at (now (arg0 .entry))) (at (now (arg1 .entry)))) (Knows (now (labels .entry)) (now (words .entry)) (now (marks .entry))) (Knows (now (labels .exit)) (now (words .exit)) (now (marks .exit))) ⌝ }
+{
+    if n <= j {
+        return false;
+    }
+    let f = symbol[i];
+    let g = symbol[j];
+    if f != g {
+        return false;
+    }
+    if argument(labels, arg0, i) != argument(labels, arg0, j) {
+        return false;
+    }
+    if argument(labels, arg1, i) != argument(labels, arg1, j) {
+        return false;
+    }
+    join(labels, words, marks, i, j)
+}
+
+// The symbol and the argument labels of a term as one number.
+fn key<'a>(
+    labels: &'a [u8; MOST_TERMS],
+    symbol: &'a [u8; MOST_TERMS],
+    arg0: &'a [u8; MOST_TERMS],
+    arg1: &'a [u8; MOST_TERMS],
+    i: usize,
+) -> usize
+    requires { ⌜ i < mostTerms ⌝ }
+    ensures { λ r. ⌜ r < 16777216 ⌝ }
+{
+    let a = argument(labels, arg0, i) % BYTE_VALUES;
+    let b = argument(labels, arg1, i) % BYTE_VALUES;
+    wide(symbol[i]) * 65536 + a * 256 + b
+}
+
+// Where a key stands in the table of the terms met so far, or the free place for it.
+fn slot<'a>(table: &'a [u8; SLOTS], keys: &'a [u32; SLOTS], k: u32) -> usize
+    ensures { λ r. ⌜ r < 256 ⌝ }
+{
+    let mut h: usize = ((k / 65536 * 31 + k / 256 % 256 * 17 + k % 256 * 101) % 256) as usize;
+    let mut tried: usize = 0;
+    while tried < SLOTS {
+        if table[h] == NO_TERM {
+            return h;
+        }
+        if keys[h] == k {
+            return h;
+        }
+        h = (h + 1) % SLOTS;
+        tried += 1;
+    }
+    h
+}
+
+// R3 of one term: joins it to the term met before with its key, or notes it as the first.
+fn meet_key<'a>(
+    labels: &mut [u8; MOST_TERMS],
+    words: &mut [u16; MOST_TERMS],
+    marks: &mut [u64; MARK_WORDS],
+    table: &mut [u8; SLOTS],
+    keys: &mut [u32; SLOTS],
+    fresh: &mut [u8; MOST_TERMS],
+    symbol: &'a [u8; MOST_TERMS],
+    arg0: &'a [u8; MOST_TERMS],
+    arg1: &'a [u8; MOST_TERMS],
+    n: usize,
+    i: usize,
+) -> bool
+    requires { ⌜ (n ≤ mostTerms) × (i < n) ⌝ }
+    ensures { λ _. ⌜ Kept (Congruent n (at (now (symbol .entry))) (at (now (arg0 .entry))) (at (now (arg1 .entry)))) (Knows (now (labels .entry)) (now (words .entry)) (now (marks .entry))) (Knows (now (labels .exit)) (now (words .exit)) (now (marks .exit))) ⌝ }
+{
+    if arg0[i] == MISSING {
+        return false;
+    }
+    let k = key(labels, symbol, arg0, arg1, i) as u32;
+    let h = slot(table, keys, k);
+    let j = table[h];
+    if j == NO_TERM {
+        table[h] = i as u8;
+        keys[h] = k;
+        fresh[i] = 1;
+        return false;
+    }
+    fresh[i] = 0;
+    congruent(labels, words, marks, symbol, arg0, arg1, n, i, wide(j))
+}
+
+// R5 of two groups: k cannot have the code v of a group g that it is marked against.
+fn strike_one(
+    words: &mut [u16; MOST_TERMS],
+    marks: &[u64; MARK_WORDS],
+    g: usize,
+    v: usize,
+    k: usize,
+) -> bool
+    requires { ⌜ v < mostCodes ⌝ }
+    ensures { λ _. ⌜ Kept (CodeMarks (now (marks .entry)) g v) (Words (now (words .entry))) (Words (now (words .exit))) ⌝ }
+{
+    if marked(marks, g, k) {
+        return strike(words, k, 1u16 << v);
+    }
+    false
+}
+
+// R5 of one group and half of the groups marked against it.
+fn strike_half(
+    words: &mut [u16; MOST_TERMS],
+    marks: &[u64; MARK_WORDS],
+    g: usize,
+    v: usize,
+    half: usize,
+) -> bool
+    requires { ⌜ (v < mostCodes) × ((g < mostTerms) × (half < 2)) ⌝ }
+    ensures { λ _. ⌜ Kept (CodeMarks (now (marks .entry)) g v) (Words (now (words .entry))) (Words (now (words .exit))) ⌝ }
+{
+    let mut rest: u64 = marks[2 * g + half];
+    let mut news = false;
+    while 0 < rest {
+        news = strike_one(words, marks, g, v, half * WORD_BITS + lowest(rest)) | news;
+        rest = rest & (rest - 1);
+    }
+    news
+}
+
+// R5 of one group: a single code left is struck out in the groups marked against it.
+fn strike_row<'a>(
+    words: &mut [u16; MOST_TERMS],
+    labels: &'a [u8; MOST_TERMS],
+    marks: &'a [u64; MARK_WORDS],
+    g: usize,
+) -> bool
+    requires { ⌜ g < mostTerms ⌝ }
+    ensures { λ _. ⌜ Kept (SmallMarks (now (marks .entry))) (Words (now (words .entry))) (Words (now (words .exit))) ⌝ }
+{
+    if label(labels, g) != g {
+        return false;
+    }
+    let v = single(word(words, g));
+    if MOST_CODES <= v {
+        return false;
+    }
+    let low = strike_half(words, marks, g, v, 0);
+    let high = strike_half(words, marks, g, v, 1);
+    low | high
+}
+
+// For each fresh term that has the argument `there`, the nearest earlier one with the same symbol and the same label of the argument
+// `by`, NO_TERM where there is none; now and then one with another label.
+fn buckets<'a>(
+    labels: &'a [u8; MOST_TERMS],
+    symbol: &'a [u8; MOST_TERMS],
+    there: &'a [u8; MOST_TERMS],
+    by: &'a [u8; MOST_TERMS],
+    fresh: &'a [u8; MOST_TERMS],
+    n: usize,
+) -> [u8; MOST_TERMS]
+    requires { ⌜ n ≤ mostTerms ⌝ }
+{
+    let mut earlier = [NO_TERM; MOST_TERMS];
+    let mut last = [NO_TERM; SLOTS];
     let mut i: usize = 0;
     while i < n {
-        if fresh[i] == 1 && there[i] != 255 {
-            let h = (wide(symbol[i]) * 37 + argument(labels, by, i) % 256 * 11) % 256;
+        if fresh[i] == 1 && there[i] != MISSING {
+            let h = (wide(symbol[i]) * 37 + argument(labels, by, i) % BYTE_VALUES * 11) % SLOTS;
             earlier[i] = last[h];
             last[h] = i as u8;
         }
@@ -335,18 +386,18 @@ fn buckets<'a>(
 
 // R4 of two terms: where their results differ and all argument pairs but one are equal, that pair differs.
 fn contrapose<'a>(
-    marks: &mut [u64; 256],
-    labels: &'a [u8; 128],
-    words: &'a [u16; 128],
-    symbol: &'a [u8; 128],
-    arg0: &'a [u8; 128],
-    arg1: &'a [u8; 128],
+    marks: &mut [u64; MARK_WORDS],
+    labels: &'a [u8; MOST_TERMS],
+    words: &'a [u16; MOST_TERMS],
+    symbol: &'a [u8; MOST_TERMS],
+    arg0: &'a [u8; MOST_TERMS],
+    arg1: &'a [u8; MOST_TERMS],
     n: usize,
     i: usize,
     j: usize,
 ) -> bool
-    requires { ⌜ (n ≤ 128) × (i < n) ⌝ }
-    ensures { λ _. ⌜ Kept (Settled n (now (symbol .entry)) (now (arg0 .entry)) (now (arg1 .entry)) (now (labels .entry)) (now (words .entry))) (Marks (now (marks .entry))) (Marks (now (marks .exit))) ⌝ }
+    requires { ⌜ (n ≤ mostTerms) × (i < n) ⌝ }
+    ensures { λ _. ⌜ Kept (LawfulGrouped n (now (symbol .entry)) (now (arg0 .entry)) (now (arg1 .entry)) (now (labels .entry)) (now (words .entry))) (Marks (now (marks .entry))) (Marks (now (marks .exit))) ⌝ }
 {
     if n <= j {
         return false;
@@ -374,23 +425,23 @@ fn contrapose<'a>(
 
 // R4 of one term and the earlier terms of its symbol.
 fn contrapose_row<'a>(
-    marks: &mut [u64; 256],
-    labels: &'a [u8; 128],
-    words: &'a [u16; 128],
-    symbol: &'a [u8; 128],
-    arg0: &'a [u8; 128],
-    arg1: &'a [u8; 128],
-    earlier: &'a [u8; 128],
+    marks: &mut [u64; MARK_WORDS],
+    labels: &'a [u8; MOST_TERMS],
+    words: &'a [u16; MOST_TERMS],
+    symbol: &'a [u8; MOST_TERMS],
+    arg0: &'a [u8; MOST_TERMS],
+    arg1: &'a [u8; MOST_TERMS],
+    earlier: &'a [u8; MOST_TERMS],
     n: usize,
     i: usize,
 ) -> bool
-    requires { ⌜ (n ≤ 128) × (i < n) ⌝ }
-    ensures { λ _. ⌜ Kept (Settled n (now (symbol .entry)) (now (arg0 .entry)) (now (arg1 .entry)) (now (labels .entry)) (now (words .entry))) (Marks (now (marks .entry))) (Marks (now (marks .exit))) ⌝ }
+    requires { ⌜ (n ≤ mostTerms) × (i < n) ⌝ }
+    ensures { λ _. ⌜ Kept (LawfulGrouped n (now (symbol .entry)) (now (arg0 .entry)) (now (arg1 .entry)) (now (labels .entry)) (now (words .entry))) (Marks (now (marks .entry))) (Marks (now (marks .exit))) ⌝ }
 {
     let mut news = false;
     let mut j = wide(earlier[i]);
     let mut tried: usize = 0;
-    while j < MOST && tried < MOST {
+    while j < MOST_TERMS && tried < MOST_TERMS {
         news = contrapose(marks, labels, words, symbol, arg0, arg1, n, i, j) | news;
         j = wide(earlier[j]);
         tried += 1;
@@ -400,17 +451,17 @@ fn contrapose_row<'a>(
 
 // R4 of each term and the earlier terms of its bucket.
 fn contrapose_all<'a>(
-    marks: &mut [u64; 256],
-    labels: &'a [u8; 128],
-    words: &'a [u16; 128],
-    symbol: &'a [u8; 128],
-    arg0: &'a [u8; 128],
-    arg1: &'a [u8; 128],
-    earlier: &'a [u8; 128],
+    marks: &mut [u64; MARK_WORDS],
+    labels: &'a [u8; MOST_TERMS],
+    words: &'a [u16; MOST_TERMS],
+    symbol: &'a [u8; MOST_TERMS],
+    arg0: &'a [u8; MOST_TERMS],
+    arg1: &'a [u8; MOST_TERMS],
+    earlier: &'a [u8; MOST_TERMS],
     n: usize,
 ) -> bool
-    requires { ⌜ n ≤ 128 ⌝ }
-    ensures { λ _. ⌜ Kept (Settled n (now (symbol .entry)) (now (arg0 .entry)) (now (arg1 .entry)) (now (labels .entry)) (now (words .entry))) (Marks (now (marks .entry))) (Marks (now (marks .exit))) ⌝ }
+    requires { ⌜ n ≤ mostTerms ⌝ }
+    ensures { λ _. ⌜ Kept (LawfulGrouped n (now (symbol .entry)) (now (arg0 .entry)) (now (arg1 .entry)) (now (labels .entry)) (now (words .entry))) (Marks (now (marks .entry))) (Marks (now (marks .exit))) ⌝ }
 {
     let mut news = false;
     let mut i: usize = n;
@@ -419,25 +470,4 @@ fn contrapose_all<'a>(
         news = contrapose_row(marks, labels, words, symbol, arg0, arg1, earlier, n, i) | news;
     }
     news
-}
-
-// R4: where the results of one symbol differ and all argument pairs but one are equal, that pair differs. The terms to compare with share
-// the second argument, or the lack of one, or the first.
-pub fn mark_arguments<'a>(
-    marks: &mut [u64; 256],
-    labels: &'a [u8; 128],
-    words: &'a [u16; 128],
-    symbol: &'a [u8; 128],
-    arg0: &'a [u8; 128],
-    arg1: &'a [u8; 128],
-    fresh: &'a [u8; 128],
-    n: usize,
-) -> bool
-    requires { ⌜ n ≤ 128 ⌝ }
-    ensures { λ _. ⌜ Kept (Settled n (now (symbol .entry)) (now (arg0 .entry)) (now (arg1 .entry)) (now (labels .entry)) (now (words .entry))) (Marks (now (marks .entry))) (Marks (now (marks .exit))) ⌝ }
-{
-    let firsts = buckets(labels, symbol, arg0, arg1, fresh, n);
-    let news = contrapose_all(marks, labels, words, symbol, arg0, arg1, &firsts, n);
-    let seconds = buckets(labels, symbol, arg1, arg0, fresh, n);
-    contrapose_all(marks, labels, words, symbol, arg0, arg1, &seconds, n) | news
 }

@@ -1,4 +1,4 @@
--- What the search answers: the least sizes and codes, or that there are none.
+-- The interface: what the search answers: the least sizes and codes, or that there are none.
 use Prim.Native.Nat.{ℕ}
 use mathlib.Core.Path.{_≡_}
 use mathlib.Core.Bool.{Bool, true, false}

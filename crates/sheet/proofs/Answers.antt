@@ -13,11 +13,11 @@ use borrow.Author.Tests.{leb-true, leb-false, eqb-true, eqb-false}
 use Rattle.logic.specs.Sheet.{Sheet}
 use Rattle.logic.specs.WellFormed.{WellFormed}
 use Rattle.sheet.specs.Layout
-use Rattle.sheet.specs.Layout.{kindOf, if, cause, kindAt, lengthAt, payloadAt, accepted, refused, ended, readFrom, reading, empty, misplaced, wrongLength, tooMany, outOfRange, illSorted, repeated}
+use Rattle.prelude.specs.Tests.{if}
+use Rattle.sheet.specs.Layout.{kindOf, cause, kindAt, lengthAt, payloadAt, accepted, refused, ended, readFrom, reading, empty, misplaced, wrongLength, tooMany, outOfRange, illSorted, repeated}
 use Rattle.sheet.specs.Encode.{encode}
-use Rattle.sheet.specs.SoFar.{SoFar}
 use Rattle.sheet.specs.Step.{stepAt}
-use Rattle.sheet.specs.Parts.{faultOf, faultAt}
+use Rattle.sheet.specs.Parts.{SoFar, faultOf, faultAt}
 use Rattle.sheet.specs.declared.Step.{Step}
 use Rattle.sheet.specs.declared.Step.the-variants.{Record, Cut, End}
 use Rattle.sheet.proofs.Causes.{reached-5}
@@ -107,7 +107,7 @@ refused-place s n i e = refused-listed s n i e .place
 
 -- ---- accepted sheets
 -- what an accepted sheet has come to
-record Whole (s : List ℕ) (sh : Sheet) : Type 0 where
+record ReadTo (s : List ℕ) (sh : Sheet) : Type 0 where
   sofar : SoFar sh
   total : sh .total ≡ 0 → ⊥
   bytes : s ≡ written sh
@@ -115,24 +115,24 @@ record Whole (s : List ℕ) (sh : Sheet) : Type 0 where
 same-sheet : (sh sh′ : Sheet) → accepted sh ≡ accepted sh′ → sh ≡ sh′
 same-sheet sh sh′ e = cc
 
-ended-whole : (s : List ℕ) (sh sh′ : Sheet) → SoFar sh → s ≡ written sh → ended s sh ≡ accepted sh′ → Whole s sh′
-ended-whole s sh sh′ so b e = go (eqb (sh .total) 0) refl e
+ended-read : (s : List ℕ) (sh sh′ : Sheet) → SoFar sh → s ≡ written sh → ended s sh ≡ accepted sh′ → ReadTo s sh′
+ended-read s sh sh′ so b e = go (eqb (sh .total) 0) refl e
   where
-    go : (x : Bool) → eqb (sh .total) 0 ≡ x → if x (refused 9 (length s)) (accepted sh) ≡ accepted sh′ → Whole s sh′
+    go : (x : Bool) → eqb (sh .total) 0 ≡ x → if x (refused 9 (length s)) (accepted sh) ≡ accepted sh′ → ReadTo s sh′
     go true ex z = absurd (never sh′ 9 (length s) (sym z))
-    go false ex z = subst (λ (y : Sheet). Whole s y) (same-sheet sh sh′ z) (record { sofar = so; total = eqb-false (sh .total) 0 ex; bytes = b })
+    go false ex z = subst (λ (y : Sheet). ReadTo s y) (same-sheet sh sh′ z) (record { sofar = so; total = eqb-false (sh .total) 0 ex; bytes = b })
 
-from-whole : (n : ℕ) (s : List ℕ) (i : ℕ) (sh sh′ : Sheet) → length s ≤ i + n → take i s ≡ written sh → SoFar sh → readFrom n s i sh ≡ accepted sh′ → Whole s sh′
+from-read : (n : ℕ) (s : List ℕ) (i : ℕ) (sh sh′ : Sheet) → length s ≤ i + n → take i s ≡ written sh → SoFar sh → readFrom n s i sh ≡ accepted sh′ → ReadTo s sh′
 unfolding readFrom
-from-whole zero s i sh sh′ enough b so e = ended-whole s sh sh′ so (sym (take-all i s (omega arith)) ∙ b) e
-from-whole (suc n) s i sh sh′ enough b so e =
-    go (leb (length s) i) (eqb (faultAt s i sh) 0) refl refl (λ i sh. from-whole n s i sh sh′)
+from-read zero s i sh sh′ enough b so e = ended-read s sh sh′ so (sym (take-all i s (omega arith)) ∙ b) e
+from-read (suc n) s i sh sh′ enough b so e =
+    go (leb (length s) i) (eqb (faultAt s i sh) 0) refl refl (λ i sh. from-read n s i sh sh′)
   where
     go : (x y : Bool) → leb (length s) i ≡ x → eqb (faultAt s i sh) 0 ≡ y
-        → ((i : ℕ) (sh : Sheet) → length s ≤ i + n → take i s ≡ written sh → SoFar sh → readFrom n s i sh ≡ accepted sh′ → Whole s sh′) → Whole s sh′
+        → ((i : ℕ) (sh : Sheet) → length s ≤ i + n → take i s ≡ written sh → SoFar sh → readFrom n s i sh ≡ accepted sh′ → ReadTo s sh′) → ReadTo s sh′
     go true y ex ey next =
         let h = leb-true (length s) i ex in
-        ended-whole s sh sh′ so (sym (take-all i s h) ∙ b) (sym (from-end (suc n) s i sh h) ∙ e)
+        ended-read s sh sh′ so (sym (take-all i s h) ∙ b) (sym (from-end (suc n) s i sh h) ∙ e)
     go false true ex ey next =
         let h = leb-false (length s) i ex in
         let good = eqb-true (faultAt s i sh) 0 ey in
@@ -144,28 +144,29 @@ from-whole (suc n) s i sh sh′ enough b so e =
     go false false ex ey next =
         absurd (never sh′ (faultAt s i sh) i (sym e ∙ from-fault n s i sh (leb-false (length s) i ex) (eqb-false (faultAt s i sh) 0 ey)))
 
-whole : (s : List ℕ) (sh : Sheet) → reading s ≡ accepted sh → Whole s sh
+read-to : (s : List ℕ) (sh : Sheet) → reading s ≡ accepted sh → ReadTo s sh
 unfolding reading
-whole s sh e = go (eqb (length s) 0 || ltb 4096 (length s)) e
+read-to s sh e = go (eqb (length s) 0 || ltb 4096 (length s)) e
   where
-    go : (b : Bool) → if b (refused 1 0) (readFrom (length s) s 0 empty) ≡ accepted sh → Whole s sh
+    go : (b : Bool) → if b (refused 1 0) (readFrom (length s) s 0 empty) ≡ accepted sh → ReadTo s sh
     go true z = absurd (never sh 1 0 (sym z))
-    go false z = from-whole (length s) s 0 empty sh (omega arith) (sym written-none) empty-sofar z
+    go false z = from-read (length s) s 0 empty sh (omega arith) (sym written-none) empty-sofar z
 
 -- an accepted sheet is well formed
 pub accepted-well-formed : (s : List ℕ) (sh : Sheet) → reading s ≡ accepted sh → WellFormed sh
 accepted-well-formed s sh e =
-    let w = whole s sh e in
+    let w = read-to s sh e in
     let so = w .sofar in
     let last = reached-5 sh (w .total) in
     record {
-      sorts = (so .begun (omega arith), so .sorts);
+      stage = (so .stage (omega arith), positive (sh .total) (w .total));
+      sorts = so .sorts;
       symbols = so .symbols;
       terms = so .terms;
       literals = so .literals;
       floor = so .floor;
       ceiling = so .ceiling;
-      total = (positive (sh .total) (w .total), so .total);
+      total = so .total;
       result = so .result;
       params = so .params;
       arity = so .arity;
@@ -180,7 +181,7 @@ accepted-well-formed s sh e =
 
 -- and its bytes are its encoding
 pub accepted-encode : (s : List ℕ) (sh : Sheet) → reading s ≡ accepted sh → s ≡ encode sh
-accepted-encode s sh e = let w = whole s sh e in w .bytes ∙ written-all sh (positive (sh .total) (w .total))
+accepted-encode s sh e = let w = read-to s sh e in w .bytes ∙ written-all sh (positive (sh .total) (w .total))
 
 -- so a sheet is accepted exactly when it is the encoding of a well-formed one
 pub accepted-exactly : (s : List ℕ) (sh : Sheet) → (reading s ≡ accepted sh) ↔ (WellFormed sh × (s ≡ encode sh))

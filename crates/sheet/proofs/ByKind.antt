@@ -9,11 +9,10 @@ use lib.Dec.{ltb}
 use borrow.Author.Tests.{ltb-true, ltb-false, leb-false, not-false}
 use Rattle.logic.specs.Sheet.{Sheet}
 use Rattle.sheet.specs.Layout.{kindOf, wrongLength, add}
-use Rattle.sheet.specs.Step.{bytesOf, Short}
-use Rattle.sheet.specs.Parts.{later, Good}
+use Rattle.sheet.specs.Parts.{bytesOf, Short, later, Good}
 use Rattle.sheet.specs.declared.Payload.{Payload}
 use Rattle.sheet.proofs.Causes.{Placed, placed, Clear, clear, no-terms}
-use Rattle.sheet.proofs.Bools.{and-both, or-both}
+use Rattle.prelude.proofs.Tests.{and-both, or-both}
 use Rattle.sheet.proofs.Pairs.{front}
 
 -- kinds of one length only

@@ -8,10 +8,11 @@ use lib.ListN.{length}
 use lib.Dec.{ltb, eqb}
 use borrow.Author.Tests.{lt-ltb, le-ltb, le-leb, lt-leb, eq-eqb, ne-eqb, ltb-false, eqb-true, eqb-false}
 use Rattle.logic.specs.Sheet.{Sheet, sortAt}
-use Rattle.sheet.specs.Layout.{Kind, field, name, expression, same, total, kindOf, if, rank, reached, misplaced, wrongLength, shortest, longest, tooMany, outOfRange, illSorted, repeated, all, occurs, within}
+use Rattle.prelude.specs.Tests.{if, all, within}
+use Rattle.prelude.proofs.Tests.{or-all, or-fourth, and-no}
+use Rattle.sheet.specs.Layout.{Kind, field, name, expression, same, total, kindOf, rank, reached, misplaced, wrongLength, shortest, longest, tooMany, outOfRange, illSorted, repeated, occurs}
 use Rattle.sheet.specs.Packed.{first}
 use Rattle.sheet.specs.Parts.{later}
-use Rattle.sheet.proofs.Bools.{or-all, or-fourth, and-no}
 
 -- a kind that is none of 1 to 6 has no rank
 pub no-rank : (k : ℕ) → (k ≡ 1 → ⊥) → (k ≡ 2 → ⊥) → (k ≡ 3 → ⊥) → (k ≡ 4 → ⊥) → (k ≡ 5 → ⊥) → (k ≡ 6 → ⊥) → 0 ≡ rank (kindOf k)

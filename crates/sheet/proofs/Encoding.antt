@@ -9,18 +9,19 @@ use lib.Seq.{append-snoc, drop-append-add, take-append-seam, getD-append-seam, g
 use lib.Dec.{eqb}
 use borrow.Author.Tests.{le-ltb, ne-eqb, eqb-true}
 use Rattle.logic.specs.Sheet.{Sheet, Bound, Symbol, Term, Literal, symbolAt, termAt, sortAt}
-use Rattle.logic.specs.Structure.{at}
-use Rattle.logic.specs.WellFormed.{Each, Within, WellFormed}
+use Rattle.prelude.specs.Tests.{Each, Within, if, sameList}
+use Rattle.prelude.specs.Lists.{at}
+use Rattle.prelude.proofs.Tests.{and-both, true-within, sameList-same, same-sameList}
+use Rattle.prelude.proofs.Lists.{map-each}
+use Rattle.logic.specs.WellFormed.{WellFormed}
 use Rattle.logic.proofs.Meaning.{few-arguments}
-use Rattle.sheet.specs.Layout.{Kind, kindOf, field, name, expression, same, total, if, rank, reached, misplaced, wrongLength, sameList, occurs, cause, add, lengthAt, kindAt, payloadAt, Reading, accepted, readFrom, reading, empty}
+use Rattle.sheet.specs.Layout.{Kind, kindOf, field, name, expression, same, total, rank, reached, misplaced, wrongLength, occurs, cause, add, lengthAt, kindAt, payloadAt, Reading, accepted, readFrom, reading, empty}
 use Rattle.sheet.specs.Encode.{packet, boundBytes, symbolBytes, termBytes, literalBytes, encode}
 use Rattle.sheet.specs.Parts.{later, faultAt}
-use Rattle.sheet.proofs.Bools.{and-both, true-within}
 use Rattle.sheet.proofs.Longest.{encode-length, encode-longest}
 use Rattle.sheet.proofs.Steps.{not-cut}
 use Rattle.sheet.proofs.Causes.{placed-later, field-fine, name-fine, term-fine, literal-fine, total-fine}
-use Rattle.sheet.proofs.Pairs.{below-all, map-below}
-use Rattle.sheet.proofs.Growing.{sameList-same, same-sameList}
+use Rattle.sheet.proofs.Pairs.{below-all}
 use Rattle.sheet.proofs.Records.{cause-later, fault-whole, from-end, from-good}
 
 -- ---- one record among the bytes
@@ -163,7 +164,7 @@ module _ (sh : Sheet) where
     symbols-reached fs = either 1 2 (not (eqb (length fs) 0)) 2 _ (omega arith) begun
       where
         begun : Within 1 2 (if (not (eqb (length (sh .bounds)) 0)) 1 0)
-        begun = rw (ne-eqb (length (sh .bounds)) 0 (λ e. let h = w .sorts .0 in omega arith)) (omega arith)
+        begun = rw (ne-eqb (length (sh .bounds)) 0 (λ e. let h = w .stage .0 in omega arith)) (omega arith)
 
     terms-reached : (ts : List Term) → Within 1 3 (reached (termsRead ts))
     terms-reached ts = either 1 3 (not (eqb (length ts) 0)) 3 _ (omega arith) (let h = symbols-reached (sh .symbols) in omega arith)
@@ -174,7 +175,7 @@ module _ (sh : Sheet) where
     bound-good : (done todo : List Bound) (b : Bound) → sh .bounds ≡ done ++ (b ∷ todo) → cause (sortsRead done) 1 (b .floor ∷ b .ceiling ∷ []) ≡ 0
     bound-good done todo b e =
         no-cause (sortsRead done) 1 (b .floor ∷ b .ceiling ∷ []) (first done) refl
-        (field-fine (sortsRead done) (b .floor) (b .ceiling) (room 8 (sh .bounds) done todo b (w .sorts .1) e)
+        (field-fine (sortsRead done) (b .floor) (b .ceiling) (room 8 (sh .bounds) done todo b (w .sorts) e)
         (true-within 1 16 (b .floor) (entry (λ i c. Within 1 16 (c .floor)) (sh .bounds) _ (w .floor) done todo b e))
         (true-within 1 16 (b .ceiling) (entry (λ i c. Within 1 16 (c .ceiling)) (sh .bounds) _ (w .ceiling) done todo b e)))
       where
@@ -201,8 +202,8 @@ module _ (sh : Sheet) where
 
       arg-sorts : map (sortAt (termsRead done)) (t .args) ≡ symbolAt sh (t .symbol) .params
       arg-sorts =
-          map-below (sortAt (termsRead done)) (sortAt sh) (length done) (t .args)
-          (λ a h. sym (ap (λ (u : Term). symbolAt sh (u .symbol) .result) (old a h))) earlier
+          map-each (sortAt (termsRead done)) (sortAt sh) (λ a. a < length done)
+          (λ a h. sym (ap (λ (u : Term). symbolAt sh (u .symbol) .result) (old a h))) (t .args) earlier
           ∙ entry (λ i u. map (sortAt sh) (u .args) ≡ symbolAt sh (u .symbol) .params) (sh .terms) _ (w .argSorts) done todo t e
 
       fresh : (i : ℕ) → i < length done → termAt (termsRead done) i ≡ t → ⊥
@@ -252,7 +253,7 @@ module _ (sh : Sheet) where
         let h = literals-reached (sh .literals) in
         no-cause (literalsRead (sh .literals)) 6 (sh .total ∷ [])
         (in-place (literalsRead (sh .literals)) total (omega arith) (omega arith) (omega arith)) refl
-        (total-fine (literalsRead (sh .literals)) (sh .total) refl (w .total .0) (w .total .1))
+        (total-fine (literalsRead (sh .literals)) (sh .total) refl (w .stage .1) (w .total))
 
     -- ---- the whole sheet
     encode-reads : Reads (encode sh) 0 empty (accepted sh)
@@ -283,7 +284,7 @@ module _ (sh : Sheet) where
         s = ofSorts ++ ofSymbols ++ ofTerms ++ ofLiterals ++ ofTotal
 
         last : Reads s (length s) sh (accepted sh)
-        last n h = from-end n s (length s) sh (omega arith) ∙ rw (ne-eqb (sh .total) 0 (λ e. let z = w .total .0 in omega arith))
+        last n h = from-end n s (length s) sh (omega arith) ∙ rw (ne-eqb (sh .total) 0 (λ e. let z = w .stage .1 in omega arith))
 
 -- a well-formed sheet's encoding is read as that sheet
 pub encode-read : (sh : Sheet) → WellFormed sh → reading (encode sh) ≡ accepted sh

@@ -9,13 +9,13 @@ use lib.Seq.{getD-append-seam}
 use lib.Dec.{ltb, eqb}
 use borrow.Author.Tests.{ltb-true, ltb-false, leb-false, eqb-true, not-false, eq-eqb}
 use Rattle.logic.specs.Sheet.{Sheet, Bound, Symbol, Term, Literal, symbolAt, termAt, sortAt}
-use Rattle.logic.specs.WellFormed.{Each, Within}
-use Rattle.sheet.specs.Layout.{Kind, kindOf, field, name, expression, same, differ, total, if, rank, reached, misplaced, wrongLength, shortest, longest, all, within, sameList, occurs, cause, add, addBound, addSymbol, addTerm, addLiteral, withTotal, empty}
-use Rattle.sheet.specs.SoFar.{SoFar}
-use Rattle.sheet.specs.Parts.{later}
+use Rattle.prelude.specs.Tests.{Each, Within, if, all, within, sameList}
+use Rattle.prelude.proofs.Tests.{and-both, or-both, within-true, sameList-same, same-sameList}
+use Rattle.prelude.proofs.Lists.{map-each}
+use Rattle.sheet.specs.Layout.{Kind, kindOf, field, name, expression, same, differ, total, rank, reached, misplaced, wrongLength, shortest, longest, occurs, cause, add, addBound, addSymbol, addTerm, addLiteral, withTotal, empty}
+use Rattle.sheet.specs.Parts.{SoFar, later}
 use Rattle.sheet.proofs.Causes.{Placed, placed, Clear, clear, no-literals, no-terms, no-symbols}
-use Rattle.sheet.proofs.Bools.{and-both, or-both, within-true}
-use Rattle.sheet.proofs.Pairs.{all-below, each-weaken, map-below}
+use Rattle.sheet.proofs.Pairs.{all-below, each-weaken}
 
 -- what holds of each entry of a list, and of one more at its end
 pub more : {A : Type 0} (P : ℕ → A → Type 0) (l : List A) (a d : A) → ((i : ℕ) → i < length l → P i (getD l i d)) → P (length l) a
@@ -29,18 +29,6 @@ more {A = A} P l a d old new i h = go (ltb i (length l)) refl
         let m = length-append l (a ∷ []) in
         let z : length l ≡ i = omega arith in
         subst (λ (x : ℕ). P x (getD (l ++ (a ∷ [])) x d)) z (rw (getD-append-seam l a [] d) new)
-
-pub sameList-same : (xs ys : List ℕ) → sameList xs ys ≡ true → xs ≡ ys
-sameList-same [] [] e = refl
-sameList-same [] (y ∷ ys) e = absurd (true≢false (sym e))
-sameList-same (x ∷ xs) [] e = absurd (true≢false (sym e))
-sameList-same (x ∷ xs) (y ∷ ys) e =
-    let h = and-both (eqb x y) (sameList xs ys) e in
-    cc (eqb-true x y (h .0), sameList-same xs ys (h .1))
-
-pub same-sameList : (xs : List ℕ) → sameList xs xs ≡ true
-same-sameList [] = refl
-same-sameList (x ∷ xs) = rw (eq-eqb x x refl) (same-sameList xs)
 
 -- a term that does not occur is none of the terms
 not-there : (t : Term) (ts : List Term) (d : Term) → occurs (t .symbol) (t .args) ts ≡ false → (i : ℕ) → i < length ts → getD ts i d ≡ t → ⊥
@@ -57,7 +45,7 @@ one-more l a = length-append l (a ∷ [])
 module _ (sh : Sheet) (so : SoFar sh) where
   -- a record that is no field comes after one
   begun-later : (k : Kind) → Placed sh k → 2 ≤ rank k → 1 ≤ length (sh .bounds)
-  begun-later k p h = so .begun (go (reached sh) refl)
+  begun-later k p h = so .stage (go (reached sh) refl)
     where
       go : (n : ℕ) → reached sh ≡ n → 1 ≤ n
       go zero e = let z = p .first e in omega arith
@@ -74,7 +62,7 @@ module _ (sh : Sheet) (so : SoFar sh) where
       let literals = no-literals sh (omega arith) in
       let room = leb-false 8 (length (sh .bounds)) (c .room) in
       record {
-        begun = λ h. omega arith;
+        stage = λ h. omega arith;
         sorts = omega arith;
         symbols = so .symbols;
         terms = so .terms;
@@ -107,7 +95,7 @@ module _ (sh : Sheet) (so : SoFar sh) where
       let literals = no-literals sh (omega arith) in
       let room = leb-false 64 (length (sh .symbols)) (c .room) in
       record {
-        begun = λ h. begun-later name p (omega arith);
+        stage = λ h. begun-later name p (omega arith);
         sorts = so .sorts;
         symbols = omega arith;
         terms = so .terms;
@@ -141,7 +129,7 @@ module _ (sh : Sheet) (so : SoFar sh) where
       let old-sort : (a : ℕ) → a < length (sh .terms) → sortAt (addTerm sh t) a ≡ sortAt sh a =
       λ a h. ap (λ (u : Term). symbolAt sh (u .symbol) .result) (List·getD-append (sh .terms) (t ∷ []) d a h) in
       record {
-        begun = λ h. begun-later expression p (omega arith);
+        stage = λ h. begun-later expression p (omega arith);
         sorts = so .sorts;
         symbols = so .symbols;
         terms = omega arith;
@@ -157,10 +145,10 @@ module _ (sh : Sheet) (so : SoFar sh) where
         argSorts =
             more (λ i u. map (sortAt (addTerm sh t)) (u .args) ≡ symbolAt sh (u .symbol) .params) (sh .terms) t d
             (λ i h.
-            map-below (sortAt (addTerm sh t)) (sortAt sh) (length (sh .terms)) (termAt sh i .args) old-sort
+            map-each (sortAt (addTerm sh t)) (sortAt sh) (λ a. a < length (sh .terms)) old-sort (termAt sh i .args)
             (each-weaken i (length (sh .terms)) (termAt sh i .args) (omega arith) (so .args i h))
             ∙ so .argSorts i h)
-            (map-below (sortAt (addTerm sh t)) (sortAt sh) (length (sh .terms)) args old-sort (all-below (length (sh .terms)) args (range .1))
+            (map-each (sortAt (addTerm sh t)) (sortAt sh) (λ a. a < length (sh .terms)) old-sort args (all-below (length (sh .terms)) args (range .1))
             ∙ sameList-same (map (sortAt sh) args) (symbolAt sh f .params) (not-false (sameList (map (sortAt sh) args) (symbolAt sh f .params)) (c .sorts)));
         distinct =
             λ i j h h′.
@@ -183,7 +171,7 @@ module _ (sh : Sheet) (so : SoFar sh) where
       let n = one-more (sh .literals) l in
       let room = leb-false 128 (length (sh .literals)) (c .room) in
       record {
-        begun = λ h. begun-later same p (omega arith);
+        stage = λ h. begun-later same p (omega arith);
         sorts = so .sorts;
         symbols = so .symbols;
         terms = so .terms;
@@ -211,7 +199,7 @@ module _ (sh : Sheet) (so : SoFar sh) where
   grow-total x p c =
       let range = within-true 1 128 x (and-both (within 1 128 x) true (not-false (within 1 128 x && true) (c .range)) .0) in
       record {
-        begun = λ h. begun-later total p (omega arith);
+        stage = λ h. begun-later total p (omega arith);
         sorts = so .sorts;
         symbols = so .symbols;
         terms = so .terms;
@@ -290,7 +278,7 @@ grown sh so k p e = go k p (fine sh k p e)
 pub empty-sofar : SoFar empty
 empty-sofar =
     record {
-      begun = λ h. h;
+      stage = λ h. h;
       sorts = omega arith;
       symbols = omega arith;
       terms = omega arith;

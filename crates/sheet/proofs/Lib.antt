@@ -1,5 +1,4 @@
 pub mod View
-pub mod Bools
 pub mod Steps
 pub mod Causes
 pub mod Pack

@@ -1,16 +1,15 @@
--- How long the encoding of a well-formed sheet can be: at most 2,161 bytes, and one has so many.
+-- How long the encoding of a well-formed sheet can be: at most 2,161 bytes. Crate longest_sheet has one of that length.
 use Prim.Native.Nat.{ℕ, zero, suc, _+_, _*_, _≤_, _<_}
 use native.Mathlib.Nat.{mul-suc}
 use native.Mathlib.Omega.{arith}
 use mathlib.Core.Path.{_≡_, refl, ap, sym, _∙_}
 use mathlib.Core.Bool.{true}
 use mathlib.Core.List.{List, [], _∷_, map, flatMap}
-use lib.ListN.{length, getD, replicate, length-append}
+use lib.ListN.{length, getD, length-append}
 use Rattle.logic.specs.Sheet.{Sheet, Symbol, Term, termAt, sortAt}
-use Rattle.logic.specs.Order.{firsts}
-use Rattle.logic.specs.WellFormed.{Each, WellFormed}
+use Rattle.prelude.specs.Tests.{Each}
+use Rattle.logic.specs.WellFormed.{WellFormed}
 use Rattle.logic.proofs.Meaning.{few-arguments}
-use Rattle.sheet.specs.Layout.{accepted, cause, readFrom, reading}
 use Rattle.sheet.specs.Encode.{boundBytes, symbolBytes, termBytes, literalBytes, encode}
 
 -- records of at most n bytes each; one of them of two bytes less
@@ -89,23 +88,3 @@ module _ (sh : Sheet) (w : WellFormed sh) where
           let a = flat-less 7 symbolBytes symbol′ (sh .symbols) short-symbols (termAt sh 0 .symbol) (w .symbol 0 (omega arith)) (omega arith) in
           let b = flat-less 7 termBytes term′ (sh .terms) short-terms 0 (omega arith) (omega arith) in
           omega (arith, bounds, literals, encode-length sh)
-
--- the most of everything: a name without arguments and 63 of two, its expression and 127 that apply one name to the
--- expression before, twice
-unfoldable pub longestSheet : Sheet
-longestSheet =
-    record {
-      bounds = replicate 8 (record { floor = 1; ceiling = 16 });
-      symbols = record { result = 0; params = [] } ∷ replicate 63 (record { result = 0; params = 0 ∷ 0 ∷ [] });
-      terms = record { symbol = 0; args = [] } ∷ map (λ i. record { symbol = 1; args = i ∷ i ∷ [] }) (firsts 127 (λ i. i));
-      literals = replicate 128 (record { equal = true; left = 0; right = 0 });
-      total = 128;
-    }
-
-pub longest-length : length (encode longestSheet) ≡ 2161
-unfolding encode flatMap longestSheet
-longest-length = refl
-
-pub longest-read : reading (encode longestSheet) ≡ accepted longestSheet
-unfolding encode flatMap longestSheet reading readFrom cause
-longest-read = refl

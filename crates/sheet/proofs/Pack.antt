@@ -2,7 +2,7 @@
 use Prim.Native.Nat.{ℕ, suc, _+_, _-_, _<_}
 use native.Mathlib.Omega.{arith}
 use mathlib.Core.Path.{_≡_, refl, ap, sym, _∙_}
-use mathlib.Core.List.{List, [], _∷_, _++_, map, append-assoc}
+use mathlib.Core.List.{List, [], _∷_, _++_, map, map-append, append-assoc}
 use lib.ListN.{length, getD, set, replicate, length-append, length-map}
 use lib.Seq.{set-append-seam}
 use Rattle.logic.specs.Sheet.{Sheet, Bound, Symbol, Term, Literal, symbolAt, termAt, sortAt}
@@ -10,10 +10,6 @@ use Rattle.sheet.specs.Layout.{addBound, addSymbol, addTerm, addLiteral,
 use Rattle.sheet.specs.Packed.{pad, first, second, bit, packed}
 use Rattle.sheet.specs.declared.Parsed.{Parsed}
 use Rattle.sheet.proofs.View.{at-pad-map, packed-views}
-
-map-append : {A : Type 0} (f : A → ℕ) (l m : List A) → map f (l ++ m) ≡ map f l ++ map f m
-map-append f [] m = refl
-map-append f (x ∷ l) m = ap (λ (t : List ℕ). f x ∷ t) (map-append f l m)
 
 pad-snoc : (n : ℕ) (l : List ℕ) (v : ℕ) → length l < n → set (pad n l) (length l) v ≡ pad n (l ++ (v ∷ []))
 pad-snoc n l v h =
@@ -200,7 +196,7 @@ unfolding packed
 total-packed sh n = refl
 
 -- what the counts and the arrays of a parsed sheet hold
-pub record Holds (p : Parsed) (sh : Sheet) : Type 0 where
+pub record Contents (p : Parsed) (sh : Sheet) : Type 0 where
   pub sorts : p .sorts ≡ length (sh .bounds)
   pub symbols : p .symbols ≡ length (sh .symbols)
   pub terms : p .terms ≡ length (sh .terms)
@@ -214,9 +210,9 @@ pub record Holds (p : Parsed) (sh : Sheet) : Type 0 where
   pub arg1 : (i : ℕ) → i < length (sh .terms) → getD (p .arg1) i 0 ≡ second (termAt sh i .args)
   pub sort : (i : ℕ) → i < length (sh .terms) → getD (p .sort) i 0 ≡ sortAt sh i
 
-packed-holds : (sh : Sheet) → Holds (packed sh) sh
+packed-contents : (sh : Sheet) → Contents (packed sh) sh
 unfolding packed
-packed-holds sh =
+packed-contents sh =
     let v = packed-views sh in
     record {
       sorts = refl;
@@ -233,5 +229,5 @@ packed-holds sh =
       sort = v .sort;
     }
 
-pub holds : (p : Parsed) (sh : Sheet) → p ≡ packed sh → Holds p sh
-holds p sh e = rw e (packed-holds sh)
+pub contents : (p : Parsed) (sh : Sheet) → p ≡ packed sh → Contents p sh
+contents p sh e = rw e (packed-contents sh)

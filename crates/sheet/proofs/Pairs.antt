@@ -11,12 +11,12 @@ use lib.Seq.{drop-cons}
 use lib.Dec.{ltb, eqb}
 use borrow.Author.Tests.{lt-ltb, le-ltb, ne-eqb, ltb-true}
 use Rattle.logic.specs.Sheet.{Term}
-use Rattle.logic.specs.WellFormed.{Each}
-use Rattle.sheet.specs.Layout.{if, sameList, all, occurs}
+use Rattle.prelude.specs.Tests.{Each, if, sameList, all}
+use Rattle.prelude.proofs.Tests.{and-both}
+use Rattle.sheet.specs.Layout.{occurs}
 use Rattle.sheet.specs.Packed.{first, second}
-use Rattle.sheet.specs.Step.{bytesOf, Short}
+use Rattle.sheet.specs.Parts.{bytesOf, Short}
 use Rattle.sheet.specs.declared.Payload.{Payload}
-use Rattle.sheet.proofs.Bools.{and-both}
 
 -- at most two numbers, none of which is 255
 pub record Pair (l : List ℕ) : Type 0 where
@@ -34,6 +34,18 @@ same-pair (x ∷ x′ ∷ xs) (y ∷ []) p q = rw (ne-eqb x′ 255 (λ e. let h 
 same-pair (x ∷ x′ ∷ []) (y ∷ y′ ∷ []) p q = ap (λ (b : Bool). eqb x y && b) (and-true (eqb x′ y′))
 same-pair (x ∷ x′ ∷ []) (y ∷ y′ ∷ y″ ∷ ys) p q = let h = q .few in absurd (omega arith)
 same-pair (x ∷ x′ ∷ x″ ∷ xs) (y ∷ y′ ∷ ys) p q = let h = p .few in absurd (omega arith)
+
+-- at most two numbers have equal values one by one where their firsts and their seconds have
+pub pair-map : (c : ℕ → ℕ) (xs ys : List ℕ) → length xs ≡ length ys → length xs ≤ 2 → c (first xs) ≡ c (first ys) → c (second xs) ≡ c (second ys) → map c xs ≡ map c ys
+pair-map c [] [] e n f g = refl
+pair-map c [] (y ∷ ys) e n f g = absurd (omega arith)
+pair-map c (x ∷ xs) [] e n f g = absurd (omega arith)
+pair-map c (x ∷ []) (y ∷ []) e n f g = cc
+pair-map c (x ∷ []) (y ∷ y′ ∷ ys) e n f g = absurd (omega arith)
+pair-map c (x ∷ x′ ∷ xs) (y ∷ []) e n f g = absurd (omega arith)
+pair-map c (x ∷ x′ ∷ []) (y ∷ y′ ∷ []) e n f g = cc
+pair-map c (x ∷ x′ ∷ []) (y ∷ y′ ∷ y″ ∷ ys) e n f g = absurd (omega arith)
+pair-map c (x ∷ x′ ∷ x″ ∷ xs) (y ∷ y′ ∷ ys) e n f g = absurd (omega arith)
 
 -- the bytes behind a payload's first
 abbrev pub argsOf : Payload → List ℕ
@@ -131,10 +143,6 @@ second-map g n (x ∷ y ∷ l) h e = rw (lt-ltb y n (e .1 .0))
 pub occurs-from : (f : ℕ) (args : List ℕ) (ts : List Term) (d : Term) (i : ℕ) → i < length ts
     → occurs f args (drop i ts) ≡ ((eqb (getD ts i d .symbol) f && sameList (getD ts i d .args) args) || occurs f args (drop (i + 1) ts))
 occurs-from f args ts d i h = rw (drop-cons ts i d h, add-one i)
-
-pub map-below : (g g′ : ℕ → ℕ) (n : ℕ) (l : List ℕ) → ((a : ℕ) → a < n → g a ≡ g′ a) → Each (λ a. a < n) l → map g l ≡ map g′ l
-map-below g g′ n [] h e = refl
-map-below g g′ n (x ∷ l) h e = cc (h x (e .0), map-below g g′ n l h (e .1))
 
 pub each-map : (g : ℕ → ℕ) (n m : ℕ) (l : List ℕ) → ((a : ℕ) → a < n → g a < m) → Each (λ a. a < n) l → Each (λ a. a < m) (map g l)
 each-map g n m [] h e = tt

@@ -9,19 +9,19 @@ use lib.Dec.{leb, ltb}
 use borrow.Author.Tests.{ltb-false, le-ltb, lt-ltb, le-leb, lt-leb, eq-eqb, ne-eqb}
 use Rattle.logic.specs.Sheet.{Sheet}
 use Rattle.sheet.specs.Layout
-use Rattle.sheet.specs.Layout.{kindOf, if, misplaced, wrongLength, cause, cut, kindAt, lengthAt, payloadAt, accepted, refused, ended, readFrom, reading, empty}
+use Rattle.prelude.specs.Tests.{if}
+use Rattle.prelude.proofs.Tests.{or-both}
+use Rattle.sheet.specs.Layout.{kindOf, misplaced, wrongLength, cause, cut, kindAt, lengthAt, payloadAt, accepted, refused, ended, readFrom, reading, empty}
 use Rattle.sheet.specs.Packed.{packed, parsing}
-use Rattle.sheet.specs.Step.{stepAt, behind, stepCause, bytesOf, Short}
-use Rattle.sheet.specs.SoFar.{Known}
-use Rattle.sheet.specs.Parts.{later, faultOf, faultAt, Took}
+use Rattle.sheet.specs.Step.{stepAt, behind, stepCause}
+use Rattle.sheet.specs.Parts.{bytesOf, Short, PartRead, later, faultOf, faultAt, Took}
 use Rattle.sheet.specs.declared.Parsed.{Parsed}
 use Rattle.sheet.specs.declared.Payload.{Payload}
 use Rattle.sheet.specs.declared.Taken.{Taken}
 use Rattle.sheet.specs.declared.Step.the-variants.{Record, Cut, End}
-use Rattle.sheet.proofs.Bools.{or-both}
 use Rattle.sheet.proofs.Causes.{placed, ranked}
 use Rattle.sheet.proofs.Growing.{grown, empty-sofar}
-use Rattle.sheet.proofs.Pack.{holds}
+use Rattle.sheet.proofs.Pack.{contents}
 
 -- the causes in their order
 pub cause-3 : (sh : Sheet) (k : ℕ) (p : List ℕ) → misplaced sh (kindOf k) ≡ true → 3 ≡ cause sh k p
@@ -159,7 +159,7 @@ from-good n s i sh h good =
 
 -- the parser at a position: the sheet so far is known, and what is left of the sheet decides
 pub record Going (s : List ℕ) (i : ℕ) (p : Parsed) : Type 0 where
-  pub known : Known p
+  pub known : PartRead p
   pub most : ℕ
   pub enough : length s ≤ i + most
   pub rest : readFrom most s i (known .sheet) ≡ reading s
@@ -230,7 +230,7 @@ module _ (s : List ℕ) (i : ℕ) (p : Parsed) (g : Going s i p) where
 module _ (s : List ℕ) (i : ℕ) (p : Parsed) (g : Going s i p) (h : length s ≤ i) where
   pub going-untotalled : p .total ≡ 0 → refused 9 (length s) ≡ reading s
   going-untotalled e =
-      sym (ap (λ (b : Bool). if b (refused 9 (length s)) (accepted (g .known .sheet))) (eq-eqb (g .known .sheet .total) 0 (sym (holds p (g .known .sheet) (g .known .same) .total) ∙ e)))
+      sym (ap (λ (b : Bool). if b (refused 9 (length s)) (accepted (g .known .sheet))) (eq-eqb (g .known .sheet .total) 0 (sym (contents p (g .known .sheet) (g .known .same) .total) ∙ e)))
       ∙ going-end s i p g h
 
   pub going-accepted : (p .total ≡ 0 → ⊥) → record { number = 0; place = 0; sheet = p } ≡ parsing (reading s)
@@ -238,5 +238,5 @@ module _ (s : List ℕ) (i : ℕ) (p : Parsed) (g : Going s i p) (h : length s �
   going-accepted e =
       ap (λ (x : Parsed). record { number = 0; place = 0; sheet = x }) (g .known .same)
       ∙ ap parsing
-      (sym (ap (λ (b : Bool). if b (refused 9 (length s)) (accepted (g .known .sheet))) (ne-eqb (g .known .sheet .total) 0 (λ z. e (holds p (g .known .sheet) (g .known .same) .total ∙ z))))
+      (sym (ap (λ (b : Bool). if b (refused 9 (length s)) (accepted (g .known .sheet))) (ne-eqb (g .known .sheet .total) 0 (λ z. e (contents p (g .known .sheet) (g .known .same) .total ∙ z))))
       ∙ going-end s i p g h)

@@ -9,7 +9,8 @@ use lib.Seq.{length-take-le, getD-take, getD-drop}
 use lib.Dec.{ltb}
 use borrow.Author.Tests.{lt-ltb, le-ltb, le-leb, lt-leb}
 use Rattle.sheet.specs.Layout.{cut, lengthAt, kindAt}
-use Rattle.sheet.specs.Step.{stepAt, behind, stepped, bytesOf, Short}
+use Rattle.sheet.specs.Step.{stepAt, behind, stepped}
+use Rattle.sheet.specs.Parts.{bytesOf, Short}
 use Rattle.sheet.specs.declared.Step.{Step}
 use Rattle.sheet.specs.declared.Step.the-variants.{Record, Cut, End}
 

@@ -7,13 +7,14 @@ use mathlib.Core.List.{List, [], _∷_, map}
 use lib.ListN.{length, getD, drop, length-map, drop-of-length-le}
 use lib.Dec.{ltb, eqb}
 use Rattle.logic.specs.Sheet.{Sheet, Term, symbolAt, termAt, sortAt}
-use Rattle.logic.specs.WellFormed.{Each}
-use Rattle.sheet.specs.Layout.{if, expression, illSorted, occurs}
+use Rattle.prelude.specs.Tests.{Each, if}
+use Rattle.prelude.proofs.Lists.{map-each}
+use Rattle.sheet.specs.Layout.{expression, illSorted, occurs}
 use Rattle.sheet.specs.Packed.{first, second}
-use Rattle.sheet.specs.SoFar.{SoFar, Known}
+use Rattle.sheet.specs.Parts.{SoFar, PartRead}
 use Rattle.sheet.specs.declared.Parsed.{Parsed}
-use Rattle.sheet.proofs.Pack.{Holds, holds}
-use Rattle.sheet.proofs.Pairs.{Pair, same-pair, each-weaken, map-below, each-map, first-map, second-map, occurs-from}
+use Rattle.sheet.proofs.Pack.{Contents, contents}
+use Rattle.sheet.proofs.Pairs.{Pair, same-pair, each-weaken, each-map, first-map, second-map, occurs-from}
 
 pub sort-below : (sh : Sheet) → SoFar sh → (a : ℕ) → a < length (sh .terms) → sortAt sh a < length (sh .bounds)
 sort-below sh so a h = so .result (termAt sh a .symbol) (so .symbol a h)
@@ -22,22 +23,22 @@ params-pair : (sh : Sheet) → SoFar sh → (f : ℕ) → f < length (sh .symbol
 params-pair sh so f h =
     record { few = so .arity f h; small = each-weaken (length (sh .bounds)) 255 (symbolAt sh f .params) (let n = so .sorts in omega arith) (so .params f h) }
 
-module _ (p : Parsed) (k : Known p) where
+module _ (p : Parsed) (k : PartRead p) where
   -- the sorts of the arguments as the array has them
   pub arg-sorts : (args : List ℕ) → Each (λ a. a < p .terms) args → map (λ a. getD (p .sort) a 0) args ≡ map (sortAt (k .sheet)) args
   arg-sorts args e =
-      let h = holds p (k .sheet) (k .same) in
-      map-below (λ a. getD (p .sort) a 0) (sortAt (k .sheet)) (p .terms) args (λ a l. h .sort a (omega arith)) e
+      let h = contents p (k .sheet) (k .same) in
+      map-each (λ a. getD (p .sort) a 0) (sortAt (k .sheet)) (λ a. a < p .terms) (λ a l. h .sort a (omega arith)) args e
 
   pub sort0 : (args : List ℕ) → Each (λ a. a < p .terms) args → if (ltb (first args) (p .terms)) (getD (p .sort) (first args) 0) 255 ≡ first (map (sortAt (k .sheet)) args)
   sort0 args e =
-      let h = holds p (k .sheet) (k .same) in
+      let h = contents p (k .sheet) (k .same) in
       let n = k .sofar .terms in
       sym (first-map (λ a. getD (p .sort) a 0) (p .terms) args (omega arith) e) ∙ ap first (arg-sorts args e)
 
   pub sort1 : (args : List ℕ) → Each (λ a. a < p .terms) args → if (ltb (second args) (p .terms)) (getD (p .sort) (second args) 0) 255 ≡ second (map (sortAt (k .sheet)) args)
   sort1 args e =
-      let h = holds p (k .sheet) (k .same) in
+      let h = contents p (k .sheet) (k .same) in
       let n = k .sofar .terms in
       sym (second-map (λ a. getD (p .sort) a 0) (p .terms) args (omega arith) e) ∙ ap second (arg-sorts args e)
 
@@ -54,8 +55,8 @@ module _ (p : Parsed) (k : Known p) where
       ∙ ap (λ (x : ℕ). eqb f0 (first (symbolAt (k .sheet) f .params)) && eqb f1 x) (h .param1 f below)
       ∙ sym (same-pair (map (sortAt (k .sheet)) args) (symbolAt (k .sheet) f .params) pair (params-pair (k .sheet) (k .sofar) f below)))
     where
-      h : Holds p (k .sheet)
-      h = holds p (k .sheet) (k .same)
+      h : Contents p (k .sheet)
+      h = contents p (k .sheet) (k .same)
 
       s1 : ℕ
       s1 = if (ltb (second args) (p .terms)) (getD (p .sort) (second args) 0) 255
@@ -92,8 +93,8 @@ module _ (p : Parsed) (k : Known p) where
       ∙ ap (λ (x : ℕ). (eqb (getD (p .symbol) i 0) f && (eqb x (first args) && eqb (second (t .args)) (second args))) || rest) (sym (h .arg0 i below))
       ∙ ap (λ (x : ℕ). (eqb (getD (p .symbol) i 0) f && (eqb (getD (p .arg0) i 0) (first args) && eqb x (second args))) || rest) (sym (h .arg1 i below))
     where
-      h : Holds p (k .sheet)
-      h = holds p (k .sheet) (k .same)
+      h : Contents p (k .sheet)
+      h = contents p (k .sheet) (k .same)
 
       t : Term
       t = termAt (k .sheet) i
@@ -126,5 +127,5 @@ module _ (p : Parsed) (k : Known p) where
 
   pub occurs-end : (f : ℕ) (args : List ℕ) (i : ℕ) → p .terms ≤ i → occurs f args (drop i (k .sheet .terms)) ≡ false
   occurs-end f args i l =
-      let h = holds p (k .sheet) (k .same) in
+      let h = contents p (k .sheet) (k .same) in
       ap (occurs f args) (drop-of-length-le (k .sheet .terms) {i = i} (omega arith))

@@ -1,29 +1,50 @@
--- The answer to "read" from what the parser hands over.
+-- What the parser hands over says whether the bytes are accepted: number 0 stands for an accepted sheet, since no refusal has it. Hence the
+-- answer to "read".
 use Prim.Native.Nat.{ℕ}
 use native.Mathlib.Omega.{arith}
 use mathlib.Core.Path.{_≡_, refl, ap, sym, _∙_}
 use mathlib.Core.List.{List}
-use Rattle.sheet.specs.Layout.{Reading, accepted, refused, reading}
-use Rattle.sheet.specs.Packed.{parsing, verdict}
+use Rattle.logic.specs.Sheet.{Sheet}
+use Rattle.sheet.specs.Layout.{Reading, accepted, refused, reading, empty}
+use Rattle.sheet.specs.Packed.{packed, parsing, verdict}
 use Rattle.sheet.specs.declared.Parsing.{Parsing}
 use Rattle.sheet.specs.declared.Verdict.the-variants.{Accepted, Refused}
 use Rattle.sheet.proofs.Answers.{refused-number}
 
-pub verdict-accepted : (s : List ℕ) (r : Parsing) → r ≡ parsing (reading s) → r .number ≡ 0 → Accepted ≡ verdict (reading s)
-unfolding parsing verdict
-verdict-accepted s r e z = go (reading s) refl
-  where
-    go : (x : Reading) → reading s ≡ x → Accepted ≡ verdict x
-    go (accepted sh) ex = refl
-    go (refused n i) ex =
-        let h = refused-number s n i ex in
-        let y : n ≡ 0 = sym (ap (λ (p : Parsing). p .number) (e ∙ ap parsing ex)) ∙ z in
-        absurd (omega arith)
+-- the bytes are accepted, and the parsed sheet stands for the sheet that they say
+pub record Accepts (s : List ℕ) (q : Parsing) : Type 0 where
+  pub sheet : Sheet
+  pub reads : reading s ≡ accepted sheet
+  pub same : q .sheet ≡ packed sheet
 
-pub verdict-refused : (s : List ℕ) (r : Parsing) → r ≡ parsing (reading s) → (r .number ≡ 0 → ⊥) → Refused (r .number) (r .place) ≡ verdict (reading s)
-unfolding parsing verdict
-verdict-refused s r e z = go (reading s) refl
-  where
-    go : (x : Reading) → reading s ≡ x → Refused (r .number) (r .place) ≡ verdict x
-    go (accepted sh) ex = absurd (z (ap (λ (p : Parsing). p .number) (e ∙ ap parsing ex)))
-    go (refused n i) ex = cc (e ∙ ap parsing ex)
+-- they are refused, and the parsed sheet is empty
+pub record Refuses (s : List ℕ) (q : Parsing) : Type 0 where
+  pub reads : reading s ≡ refused (q .number) (q .place)
+  pub same : q .sheet ≡ packed empty
+
+module _ (s : List ℕ) (q : Parsing) (e : q ≡ parsing (reading s)) where
+  pub number-accepted : q .number ≡ 0 → Accepts s q
+  unfolding parsing
+  number-accepted z = go (reading s) refl
+    where
+      go : (R : Reading) → reading s ≡ R → Accepts s q
+      go (accepted sh) r = record { sheet = sh; reads = r; same = ap (λ (x : Parsing). x .sheet) (e ∙ ap parsing r) }
+      go (refused n i) r = absurd (omega (arith, ap (λ (x : Parsing). x .number) (e ∙ ap parsing r), refused-number s n i r))
+
+  pub number-refused : (q .number ≡ 0 → ⊥) → Refuses s q
+  unfolding parsing
+  number-refused h = go (reading s) refl
+    where
+      go : (R : Reading) → reading s ≡ R → Refuses s q
+      go (accepted sh) r = absurd (h (ap (λ (x : Parsing). x .number) (e ∙ ap parsing r)))
+      go (refused n i) r =
+          let q-is = e ∙ ap parsing r in
+          record { reads = r ∙ sym (ap (λ (x : Parsing). refused (x .number) (x .place)) q-is); same = ap (λ (x : Parsing). x .sheet) q-is }
+
+  pub verdict-accepted : q .number ≡ 0 → Accepted ≡ verdict (reading s)
+  unfolding verdict
+  verdict-accepted z = sym (ap verdict (number-accepted z .reads))
+
+  pub verdict-refused : (q .number ≡ 0 → ⊥) → Refused (q .number) (q .place) ≡ verdict (reading s)
+  unfolding verdict
+  verdict-refused h = sym (ap verdict (number-refused h .reads))

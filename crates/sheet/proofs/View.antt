@@ -1,23 +1,18 @@
 -- The arrays of a packed sheet hold, entry by entry, what the sheet's lists say.
-use Prim.Native.Nat.{ℕ, zero, suc, _-_, _<_}
-use native.Mathlib.Nat.{not-suc-le-zero, le-of-suc-le-suc}
+use Prim.Native.Nat.{ℕ, _-_, _<_}
 use mathlib.Core.Path.{_≡_, refl, _∙_}
-use mathlib.Core.List.{List, [], _∷_, map}
+use mathlib.Core.List.{List, map}
 use lib.ListN.{length, getD, replicate, length-map, List·getD-append}
-use Rattle.logic.specs.Sheet.{Sheet, Bound, Symbol, Term, Literal, symbolAt}
-use Rattle.logic.specs.Structure.{at}
+use Rattle.logic.specs.Sheet.{Sheet, Bound, Term, Literal, symbolAt}
+use Rattle.prelude.specs.Lists.{at}
+use Rattle.prelude.proofs.Lists.{at-map}
 use Rattle.sheet.specs.Packed.{pad, first, second, bit, packed, view}
 use Rattle.sheet.specs.Views.{Views}
-
-getD-map-below : {A : Type 0} (f : A → ℕ) (l : List A) (d : A) (i : ℕ) → i < length l → at (map f l) i ≡ f (getD l i d)
-getD-map-below f [] d i h = absurd (not-suc-le-zero h)
-getD-map-below f (x ∷ xs) d zero h = refl
-getD-map-below f (x ∷ xs) d (suc i) h = getD-map-below f xs d i (le-of-suc-le-suc h)
 
 -- an entry of a padded list of values is the value of that entry
 pub at-pad-map : {A : Type 0} (n : ℕ) (f : A → ℕ) (l : List A) (d : A) (i : ℕ) → i < length l → at (pad n (map f l)) i ≡ f (getD l i d)
 at-pad-map n f l d i h =
-    List·getD-append (map f l) (replicate (n - length (map f l)) 0) 0 i (rw length-map h) ∙ getD-map-below f l d i h
+    List·getD-append (map f l) (replicate (n - length (map f l)) 0) 0 i (rw length-map h) ∙ at-map f l d i h
 
 pub packed-views : (sh : Sheet) → Views sh (view (packed sh))
 unfolding packed

@@ -8,7 +8,7 @@ use lib.ListN.{length, take, drop, length-drop}
 use lib.Seq.{take-add, getD-drop}
 use borrow.Author.Tests.{le-ltb}
 use Rattle.logic.specs.Sheet.{Sheet}
-use Rattle.logic.specs.Structure.{at}
+use Rattle.prelude.specs.Lists.{at}
 use Rattle.sheet.specs.Layout.{kindOf, total, shortest, longest, add, empty, lengthAt, kindAt, payloadAt}
 use Rattle.sheet.specs.Encode.{packet, boundBytes, symbolBytes, termBytes, literalBytes, encode}
 use Rattle.sheet.proofs.Causes.{ranked, Clear, no-total, no-literals, no-terms, no-symbols}

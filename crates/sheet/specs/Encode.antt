@@ -1,10 +1,10 @@
--- The layout the other way round: the bytes that a sheet is written as (document 01, "The sheet"). A well-formed sheet has these bytes and
--- no others (`accepted-exactly`, proofs/Answers.antt).
+-- The interface: the layout the other way round: the bytes that a sheet is written as (docs/FORMAT.md, "The sheet"). A well-formed sheet
+-- has these bytes and no others (`accepted-exactly`, proofs/Answers.antt).
 use Prim.Native.Nat.{ℕ}
 use mathlib.Core.List.{List, [], _∷_, _++_, flatMap}
 use lib.ListN.{length}
 use Rattle.logic.specs.Sheet.{Sheet, Bound, Symbol, Term, Literal}
-use Rattle.sheet.specs.Layout.{if}
+use Rattle.prelude.specs.Tests.{if}
 
 -- a record: length and kind, of two bytes each, then the payload
 abbrev pub packet : ℕ → List ℕ → List ℕ

@@ -1,12 +1,14 @@
--- The layout of a sheet (document 01, "The sheet") and the causes 1 to 9 for which one is refused ("Why a call is turned down").
--- A sheet is accepted exactly when `reading` of its bytes is `accepted`.
+-- The interface: the layout of a sheet (docs/FORMAT.md, "The sheet") and the causes 1 to 9 for which one is refused ("Refusals"). A sheet
+-- is accepted exactly when `reading` of its bytes is `accepted`.
 use Prim.Native.Nat.{ℕ, zero, suc, _+_, _*_}
 use mathlib.Core.Bool.{Bool, true, false, not, _&&_, _||_}
 use mathlib.Core.List.{List, [], _∷_, _++_, map}
 use lib.ListN.{length, getD, take, drop}
 use lib.Dec.{leb, ltb, eqb}
+use Rattle.prelude.specs.Tests.{if, all, within, sameList}
 use Rattle.logic.specs.Sheet.{Sheet, Bound, Symbol, Term, Literal, symbolAt, sortAt}
-use Rattle.logic.specs.Structure.{at}
+use Rattle.prelude.specs.Lists.{at}
+use Rattle.prelude.specs.Limits.{mostSorts, mostSymbols, mostTerms, mostLiterals, mostCodes, mostTotal}
 
 -- The record kinds. `field` to `total` are the kinds 1 to 6; every other number is `other`.
 pub data Kind : Type 0 where
@@ -16,8 +18,8 @@ abbrev pub kindOf : ℕ → Kind
 kindOf n = getD (other ∷ field ∷ name ∷ expression ∷ same ∷ differ ∷ total ∷ []) n other
 
 -- the shortest and the longest payload of each kind, by the kind's number
-abbrev pub limits : List (List ℕ)
-limits =
+abbrev pub lengths : List (List ℕ)
+lengths =
     (0 ∷ 0 ∷ [])
     ∷ (2 ∷ 2 ∷ [])
     ∷ (1 ∷ 3 ∷ [])
@@ -28,19 +30,19 @@ limits =
     ∷ []
 
 abbrev pub shortest : ℕ → ℕ
-shortest k = getD (getD limits k []) 0 0
+shortest k = getD (getD lengths k []) 0 0
 
 abbrev pub longest : ℕ → ℕ
-longest k = getD (getD limits k []) 1 0
+longest k = getD (getD lengths k []) 1 0
 
 -- the most records of a kind; kinds 4 and 5 are counted together
 abbrev pub most : Kind → ℕ
 most other = 0
-most field = 8
-most name = 64
-most expression = 128
-most same = 128
-most differ = 128
+most field = mostSorts
+most name = mostSymbols
+most expression = mostTerms
+most same = mostLiterals
+most differ = mostLiterals
 most total = 1
 
 -- the order of the records: fields, names, expressions, statements in any mixture, the total
@@ -52,11 +54,6 @@ rank expression = 3
 rank same = 4
 rank differ = 4
 rank total = 5
-
--- The first of two where the test holds, else the second.
-abbrev pub if : {A : Type 0} → Bool → A → A → A
-if true a b = a
-if false a b = b
 
 -- the rank of the last record read, 0 before the first
 abbrev pub reached : Sheet → ℕ
@@ -77,20 +74,6 @@ count sh same = length (sh .literals)
 count sh differ = length (sh .literals)
 count sh total = if (eqb (sh .total) 0) 0 1
 
--- tests on lists of numbers: every entry passes; two lists are the same
-abbrev pub all : (ℕ → Bool) → List ℕ → Bool
-all p [] = true
-all p (x ∷ xs) = p x && all p xs
-
-abbrev pub sameList : List ℕ → List ℕ → Bool
-sameList [] [] = true
-sameList [] (y ∷ ys) = false
-sameList (x ∷ xs) [] = false
-sameList (x ∷ xs) (y ∷ ys) = eqb x y && sameList xs ys
-
-abbrev pub within : ℕ → ℕ → ℕ → Bool
-within lo hi n = leb lo n && leb n hi
-
 -- Cause 3: the kind is not 1 to 6, or out of order, or not a field first, or after the total.
 abbrev pub misplaced : Sheet → Kind → Bool
 misplaced sh k =
@@ -110,12 +93,12 @@ tooMany sh k = leb (most k) (count sh k)
 -- Cause 6: a floor, ceiling, total or reference is out of range. References point backwards.
 abbrev pub outOfRange : Sheet → Kind → List ℕ → Bool
 outOfRange sh other p = false
-outOfRange sh field p = not (all (within 1 16) p)
+outOfRange sh field p = not (all (within 1 mostCodes) p)
 outOfRange sh name p = not (all (λ s. ltb s (length (sh .bounds))) p)
 outOfRange sh expression p = not (ltb (at p 0) (length (sh .symbols)) && all (λ a. ltb a (length (sh .terms))) (drop 1 p))
 outOfRange sh same p = not (all (λ a. ltb a (length (sh .terms))) p)
 outOfRange sh differ p = not (all (λ a. ltb a (length (sh .terms))) p)
-outOfRange sh total p = not (all (within 1 128) p)
+outOfRange sh total p = not (all (within 1 mostTotal) p)
 
 -- Cause 7: the argument count or fields are wrong, or the two sides lie in different fields.
 abbrev pub illSorted : Sheet → Kind → List ℕ → Bool
@@ -233,6 +216,10 @@ readFrom (suc n) s i sh =
 abbrev pub empty : Sheet
 empty = record { bounds = []; symbols = []; terms = []; literals = []; total = 0 }
 
--- Cause 1: the sheet has zero bytes, or more than 4,096.
+-- the most bytes of a sheet
+abbrev pub mostBytes : ℕ
+mostBytes = 4096
+
+-- Cause 1: the sheet has zero bytes, or more than the most.
 unfoldable pub reading : List ℕ → Reading
-reading s = if (eqb (length s) 0 || ltb 4096 (length s)) (refused 1 0) (readFrom (length s) s 0 empty)
+reading s = if (eqb (length s) 0 || ltb mostBytes (length s)) (refused 1 0) (readFrom (length s) s 0 empty)

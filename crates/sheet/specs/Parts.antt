@@ -1,18 +1,47 @@
--- What the parts of the parser promise, in the words of the layout.
-use Prim.Native.Nat.{ℕ}
+-- For the proofs alone: what holds of the part of a sheet that has been read, and what the parts of the parser promise in the words of the
+-- layout.
+use Prim.Native.Nat.{ℕ, _≤_, _<_}
 use mathlib.Core.Path.{_≡_}
 use mathlib.Core.Bool.{false}
-use mathlib.Core.List.{List}
-use lib.ListN.{take, drop}
+use mathlib.Core.List.{List, [], _∷_}
+use lib.ListN.{length, take, drop}
 use Rattle.logic.specs.Sheet.{Sheet}
+use Rattle.logic.specs.WellFormed.{Formed}
 use Rattle.sheet.specs.Layout
-use Rattle.sheet.specs.Layout.{Kind, kindOf, if, misplaced, wrongLength, tooMany, outOfRange, illSorted, repeated, cause}
+use Rattle.prelude.specs.Tests.{if}
+use Rattle.prelude.specs.Limits.{missing}
+use Rattle.sheet.specs.Layout.{Kind, kindOf, reached, misplaced, wrongLength, tooMany, outOfRange, illSorted, repeated, cause}
 use Rattle.sheet.specs.Packed.{packed}
-use Rattle.sheet.specs.Step.{stepAt, stepCause, bytesOf}
+use Rattle.sheet.specs.Step.{stepAt, stepCause}
+use Rattle.sheet.specs.declared.Parsed.{Parsed}
 use Rattle.sheet.specs.declared.Step.{Step}
 use Rattle.sheet.specs.declared.Step.the-variants.{Record, Cut, End}
 use Rattle.sheet.specs.declared.Payload.{Payload}
 use Rattle.sheet.specs.declared.Taken.{Taken}
+
+-- whatever has been read, a sort came first
+abbrev pub SortFirst : Sheet → Type 0
+SortFirst sh = 1 ≤ reached sh → 1 ≤ length (sh .bounds)
+
+-- the part of a sheet that has been read, after each good record
+abbrev pub SoFar : Sheet → Type 0
+SoFar sh = Formed SortFirst sh
+
+-- the parsed sheet stands for the part that has been read
+pub record PartRead (p : Parsed) : Type 0 where
+  pub sheet : Sheet
+  pub same : p ≡ packed sheet
+  pub sofar : SoFar sheet
+
+-- a payload of one to three bytes: those bytes; each of the second and the third that is not there is missing
+abbrev pub bytesOf : Payload → List ℕ
+bytesOf q = take (q .len) (q .b0 ∷ q .b1 ∷ q .b2 ∷ [])
+
+pub record Short (q : Payload) : Type 0 where
+  pub least : 1 ≤ q .len
+  pub most : q .len ≤ 3
+  pub second : q .len < 2 → q .b1 ≡ missing
+  pub third : q .len < 3 → q .b2 ≡ missing
 
 -- the causes 5 to 8, where neither 3 nor 4 applies
 abbrev pub later : Sheet → Kind → List ℕ → ℕ

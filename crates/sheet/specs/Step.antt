@@ -1,14 +1,13 @@
--- One record of a sheet: what stands at a position, where the next one starts, and a short payload as the code holds it.
-use Prim.Native.Nat.{ℕ, _+_, _≤_, _<_}
-use mathlib.Core.Path.{_≡_}
-use mathlib.Core.List.{List, [], _∷_}
-use lib.ListN.{length, take}
+-- The interface: one record of a sheet: what stands at a position, and where the next one starts.
+use Prim.Native.Nat.{ℕ, _+_}
+use mathlib.Core.List.{List}
+use lib.ListN.{length}
 use lib.Dec.{leb}
-use Rattle.sheet.specs.Layout.{if, cut, kindAt, lengthAt}
+use Rattle.prelude.specs.Tests.{if}
+use Rattle.sheet.specs.Layout.{cut, kindAt, lengthAt}
 use Rattle.sheet.specs.declared.Step.{Step}
 use Rattle.sheet.specs.declared.Step.the-variants.{Record, Cut, End}
 use Rattle.sheet.specs.declared.Stepped.{Stepped}
-use Rattle.sheet.specs.declared.Payload.{Payload}
 
 -- The record at a position, for every position: nothing at the end or past it, a record that is cut short, or a whole one with its
 -- kind and where its payload lies.
@@ -30,13 +29,3 @@ abbrev pub stepCause : Step → ℕ
 stepCause (Record kind start len) = 0
 stepCause Cut = 2
 stepCause End = 0
-
--- a payload of one to three bytes: those bytes, with 255 for each of the second and the third that is missing
-abbrev pub bytesOf : Payload → List ℕ
-bytesOf q = take (q .len) (q .b0 ∷ q .b1 ∷ q .b2 ∷ [])
-
-pub record Short (q : Payload) : Type 0 where
-  pub least : 1 ≤ q .len
-  pub most : q .len ≤ 3
-  pub second : q .len < 2 → q .b1 ≡ 255
-  pub third : q .len < 3 → q .b2 ≡ 255

@@ -1,8 +1,8 @@
--- The joint between the two views of a sheet: what the functions of numbers say of the lists.
+-- For the proofs alone: the joint between the two views of a sheet: what the functions of numbers say of the lists.
 use Prim.Native.Nat.{ℕ, _<_}
 use mathlib.Core.Path.{_≡_}
 use lib.ListN.{length}
-use Rattle.logic.specs.Sheet.{Sheet, Bound, Symbol, Term, Literal, boundAt, symbolAt, termAt, literalAt, sortAt}
+use Rattle.logic.specs.Sheet.{Sheet, boundAt, termAt, literalAt, sortAt}
 use Rattle.logic.specs.Problem.{Problem}
 use Rattle.sheet.specs.Packed.{first, second, bit}
 

@@ -5,7 +5,7 @@ use native.Mathlib.Omega.{arith}
 use mathlib.Core.Path.{_≡_, refl}
 use mathlib.Core.List.{List, [], _∷_}
 use Rattle.logic.specs.Structure.{InSorts}
-use Rattle.logic.specs.WellFormed.{Each}
+use Rattle.prelude.specs.Tests.{Each}
 use Rattle.tables.specs.Layout.{cells, place}
 
 -- row c of n cells lies among m rows of n cells

@@ -1,25 +1,50 @@
--- A table written row by row holds the cells of its grid.
+-- A table after one cell was set; a table written row by row holds the cells of its grid.
 use Prim.Native.Nat.{ℕ, zero, suc, _+_, _*_, _≤_, _<_}
 use native.Mathlib.Nat.{not-suc-le-zero, suc-mul, mul-one, mul-le-mul-right}
-use native.Mathlib.Decide.{decLt}
+use native.Mathlib.Decide.{decLt, ℕ-discrete}
 use native.Mathlib.Numerals.{add-one}
 use native.Mathlib.Omega.{arith}
-use mathlib.Core.Path.{_≡_, refl, ap, ap₂, sym, _∙_}
+use mathlib.Core.Path.{_≡_, refl, ap, ap₂, sym, subst, _∙_}
 use mathlib.Core.List.{List, [], _∷_, _++_}
-use lib.ListN.{length, set, take, length-append, List·getD-append}
-use lib.Seq.{paste, paste-suc, length-paste, take-paste, take-all, getD-append-add, ext-getD}
-use Rattle.logic.specs.Structure.{Structure, InSorts, at}
-use Rattle.logic.specs.Order.{firsts}
-use Rattle.logic.specs.WellFormed.{Each}
-use Rattle.logic.proofs.Meaning.{length-firsts, at-firsts}
+use lib.ListN.{length, getD, set, take, length-append, List·getD-append}
+use lib.Seq.{paste, paste-suc, length-paste, take-paste, take-all, getD-append-add, getD-set-same, getD-set-other, ext-getD}
+use mir.Val.{Val}
+use base.Fml.{Fml}
+use denote.Shadow.{shadow}
+use denote.Array.{each, inArray}
+use Rattle.prelude.specs.Tests.{Each}
+use Rattle.prelude.specs.Lists.{at, firsts}
+use Rattle.prelude.proofs.Lists.{length-firsts, at-firsts}
+use Rattle.logic.specs.Structure.{Structure, InSorts}
 use Rattle.sheet.specs.Packed.{first, second}
 use Rattle.tables.specs.Layout
 use Rattle.tables.specs.Layout.{place, tableBytes}
 use Rattle.tables.specs.Parts.{width}
 use Rattle.tables.proofs.Cells.{row-below}
-use Rattle.tables.proofs.Arrays.{width-there, cells-by-width}
-use Rattle.tables.proofs.Tables.{placed, length-table, table-at-place}
-use Rattle.tables.specs.Grid.{gridCell, grid}
+use Rattle.tables.proofs.Widths.{width-there, cells-by-width}
+use Rattle.tables.proofs.Tables.{codes-at, length-table, table-at-place}
+use Rattle.tables.specs.Grid.{cell, Put, grid}
+
+-- a cell of a table after one cell was set
+pub put-cell : (t : List (List ℕ)) (row col code : ℕ) → row < length t → col < length (getD t row []) → Put t (set t row (set (getD t row []) col code)) row col code
+put-cell t row col code hr hc =
+    record {
+      here = rw (getD-set-same t row (set (getD t row []) col code) [] hr) (getD-set-same (getD t row []) col code 0 hc);
+      elsewhere = λ a b ne.
+          elim (ℕ-discrete a row) [
+            | yes e ↦
+                subst (λ (x : ℕ). cell (set t row (set (getD t row []) col code)) x b ≡ cell t x b) (sym e)
+                (rw (getD-set-same t row (set (getD t row []) col code) [] hr) (getD-set-other (getD t row []) col b code 0 (ne e)))
+            | no e ↦ ap (λ (l : List ℕ). getD l b 0) (getD-set-other t row a (set (getD t row []) col code) [] e)
+          ];
+    }
+
+-- each row of a table that is owned has its length
+pub row-length : (n : ℕ) (own : ℕ → List Val → Fml) (t : List (List ℕ)) (us : List Val) → shadow (each (List ℕ) (inArray ℕ own n) t us) → (i : ℕ) → i < length t → length (getD t i []) ≡ n
+row-length n own [] us s i h = omega arith
+row-length n own (x ∷ xs) [] s i h = absurd s
+row-length n own (x ∷ xs) (u ∷ us) s zero h = s .0 .1 .0 .1
+row-length n own (x ∷ xs) (u ∷ us) s (suc i) h = row-length n own xs us (s .1) i (omega arith)
 
 -- one more cell of a row is written
 pub cell-more : (d : List ℕ) (start n : ℕ) (f : ℕ → ℕ) (k : ℕ) → start + n ≤ length d → k < n → set (paste d start (firsts n f) k) (start + k) (f k) ≡ paste d start (firsts n f) (k + 1)
@@ -39,10 +64,10 @@ pub row-start : (r columns start : ℕ) → start ≡ r * columns → start + co
 row-start r columns start e = rw (add-one r) (omega (arith, suc-mul r columns))
 
 -- one more row is written
-pub row-more : (d : List ℕ) (cells : List (List ℕ)) (r columns start : ℕ) → start + columns ≤ length d → take start d ≡ grid cells r columns → take (start + columns) (paste d start (firsts columns (gridCell cells r)) columns) ≡ grid cells (r + 1) columns
+pub row-more : (d : List ℕ) (cells : List (List ℕ)) (r columns start : ℕ) → start + columns ≤ length d → take start d ≡ grid cells r columns → take (start + columns) (paste d start (firsts columns (cell cells r)) columns) ≡ grid cells (r + 1) columns
 row-more d cells r columns start h e =
-    let s = firsts columns (gridCell cells r) in
-    let n : length s ≡ columns = length-firsts columns (gridCell cells r) in
+    let s = firsts columns (cell cells r) in
+    let n : length s ≡ columns = length-firsts columns (cell cells r) in
     take-paste d start s columns (omega arith) (omega arith)
     ∙ ap₂ _++_ e (take-all columns s (omega arith))
     ∙ ap (λ (k : ℕ). grid cells k columns) (sym (add-one r))
@@ -50,22 +75,22 @@ row-more d cells r columns start h e =
 pub length-grid : (cells : List (List ℕ)) (rows columns : ℕ) → length (grid cells rows columns) ≡ rows * columns
 length-grid cells zero columns = omega arith
 length-grid cells (suc rows) columns =
-    length-append (grid cells rows columns) (firsts columns (gridCell cells rows))
-    ∙ omega (arith, length-grid cells rows columns, length-firsts columns (gridCell cells rows), suc-mul rows columns)
+    length-append (grid cells rows columns) (firsts columns (cell cells rows))
+    ∙ omega (arith, length-grid cells rows columns, length-firsts columns (cell cells rows), suc-mul rows columns)
 
 -- the cell of a row and a column stands at its place
-pub grid-at : (cells : List (List ℕ)) (rows columns r c : ℕ) → r < rows → c < columns → at (grid cells rows columns) (r * columns + c) ≡ gridCell cells r c
+pub grid-at : (cells : List (List ℕ)) (rows columns r c : ℕ) → r < rows → c < columns → at (grid cells rows columns) (r * columns + c) ≡ cell cells r c
 grid-at cells zero columns r c h l = absurd (not-suc-le-zero h)
 grid-at cells (suc rows) columns r c h l =
     let front = grid cells rows columns in
-    let row = firsts columns (gridCell cells rows) in
+    let row = firsts columns (cell cells rows) in
     let n : length front ≡ rows * columns = length-grid cells rows columns in
     elim (decLt r rows) [
       | yes b ↦ List·getD-append front row 0 (r * columns + c) (rw n (row-below r rows c columns b l)) ∙ grid-at cells rows columns r c b l
       | no b ↦
           let q : r ≡ rows = omega arith in
           let e : r * columns + c ≡ length front + c = ap (λ (x : ℕ). x * columns + c) q ∙ ap (λ (x : ℕ). x + c) (sym n) in
-          ap (at (front ++ row)) e ∙ getD-append-add front row c 0 ∙ at-firsts columns (gridCell cells rows) c l ∙ ap (λ (x : ℕ). gridCell cells x c) (sym q)
+          ap (at (front ++ row)) e ∙ getD-append-add front row c 0 ∙ at-firsts columns (cell cells rows) c l ∙ ap (λ (x : ℕ). cell cells x c) (sym q)
     ]
 
 -- where a list of at most two argument codes stands: its row, its column and its place
@@ -91,7 +116,7 @@ in-grid size (s ∷ (u ∷ [])) (c ∷ (d ∷ (x ∷ xs))) h e i = absurd (i .1 
 in-grid size (s ∷ (u ∷ (v ∷ vs))) (c ∷ cs) h e i = absurd (omega arith)
 
 -- a grid that holds a structure's cells is the structure's table
-pub grid-is-table : (M : Structure) (f : ℕ) (params : List ℕ) (cells : List (List ℕ)) → length params ≤ 2 → Each (λ s. s < 8) params → ((cs : List ℕ) → InSorts (M .size) params cs → gridCell cells (at cs 0) (at cs 1) ≡ M .table f cs) → grid cells (width (M .size) (first params)) (width (M .size) (second params)) ≡ tableBytes M f params
+pub grid-is-table : (M : Structure) (f : ℕ) (params : List ℕ) (cells : List (List ℕ)) → length params ≤ 2 → Each (λ s. s < 8) params → ((cs : List ℕ) → InSorts (M .size) params cs → cell cells (at cs 0) (at cs 1) ≡ M .table f cs) → grid cells (width (M .size) (first params)) (width (M .size) (second params)) ≡ tableBytes M f params
 grid-is-table M f params cells h e holds =
     let rows = width (M .size) (first params) in
     let columns = width (M .size) (second params) in
@@ -99,7 +124,7 @@ grid-is-table M f params cells h e holds =
     let n : length (grid cells rows columns) ≡ Layout.cells (M .size) params = length-grid cells rows columns ∙ many in
     ext-getD 0 (grid cells rows columns) (tableBytes M f params) (n ∙ sym (length-table M f params))
     (λ k l.
-    let x = placed (M .size) params k (rw n at l) in
+    let x = codes-at (M .size) params k (rw n at l) in
     let g = in-grid (M .size) params (x .codes) h e (x .inSorts) in
     ap (at (grid cells rows columns)) (sym (x .there) ∙ g .there)
     ∙ grid-at cells rows columns (at (x .codes) 0) (at (x .codes) 1) (g .row) (g .column)

@@ -10,14 +10,14 @@ use lib.ListN.{length, getD}
 use lib.Dec.{leb, eqb}
 use borrow.Author.Tests.{leb-true, le-leb, ltb-true, lt-ltb, eqb-true, eq-eqb}
 use Rattle.logic.specs.Sheet.{Sheet, Literal, boundAt, symbolAt}
-use Rattle.logic.specs.Structure.{Interprets, at, sumTo, Bounded}
-use Rattle.sheet.specs.Layout.{within}
-use Rattle.sheet.proofs.Bools.{and-both, within-true, true-within}
+use Rattle.prelude.specs.Tests.{within, every}
+use Rattle.prelude.specs.Lists.{at, sumTo}
+use Rattle.prelude.proofs.Tests.{and-both, within-true, true-within, decided, both-true, every-true, true-every}
+use Rattle.logic.specs.Structure.{Interprets, Bounded}
 use Rattle.tables.specs.declared.Judgement.the-variants.{Fits, Broken}
 use Rattle.tables.specs.Layout.{place, extent, decoded, WellLaid}
-use Rattle.tables.specs.Tests.{every, sizesRight, entriesRight, wellLaid, inBounds, holds, statements}
+use Rattle.tables.specs.Tests.{sizesRight, entriesRight, wellLaid, inBounds, holds, statements}
 use Rattle.tables.proofs.Cells.{place-below}
-use Rattle.tables.proofs.Tests.{decided, both-true, every-true, true-every}
 
 module _ (sh : Sheet) (t : List ℕ) where
   -- the test of cause 12 is true exactly when the tables are well laid

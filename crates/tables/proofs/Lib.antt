@@ -1,7 +1,14 @@
 pub mod Tests
 pub mod Cells
 pub mod Laid
-pub mod Arrays
+pub mod Widths
+pub mod Packing
+pub mod Offsets
+pub mod Entries
+pub mod Bounds
+pub mod TermCodes
+pub mod Statements
 pub mod Whole
+pub mod Longest
 pub mod Grids
 pub mod Tables

@@ -8,25 +8,19 @@ use mathlib.Core.List.{List, [], _∷_, _++_, map, append-assoc}
 use lib.ListN.{length, getD, take, length-append, length-map, List·getD-append}
 use lib.Seq.{getD-append-add, take-append-add, take-at, take-all, ext-getD}
 use Rattle.logic.specs.Sheet.{Sheet, Symbol, boundAt, symbolAt, termAt}
-use Rattle.logic.specs.Structure.{Structure, InSorts, Interprets, at, code, sumTo, Satisfies, Bounded}
-use Rattle.logic.specs.Order.{firsts}
+use Rattle.prelude.specs.Lists.{at, sumTo, firsts, run}
+use Rattle.prelude.proofs.Lists.{length-firsts, at-firsts, sumTo-monotone, at-map}
+use Rattle.logic.specs.Structure.{Structure, InSorts, Interprets, code, Satisfies, Bounded}
 use Rattle.logic.specs.WellFormed.{WellFormed}
-use Rattle.logic.specs.Box.{Range, run, fronts, box}
-use Rattle.logic.proofs.Meaning.{length-firsts, at-firsts}
+use Rattle.logic.specs.Box.{Range, fronts, box}
 use Rattle.logic.proofs.Codes.{reached-in-params, same-code, satisfies-same}
-use Rattle.logic.proofs.Sums.{sumTo-monotone}
 use Rattle.tables.specs.Layout.{cells, place, offset, extent, decoded, tableBytes, tablesFrom, encoded, WellLaid}
 use Rattle.tables.proofs.Cells.{place-below, place-same, cells-same, cells-monotone}
-use Rattle.tables.proofs.Arrays.{offset-same}
+use Rattle.tables.proofs.Offsets.{offset-same}
 
 -- the ranges of the argument codes
 abbrev ranges : (ℕ → ℕ) → List ℕ → List Range
 ranges size params = map (λ s. record { least = 0; many = size s }) params
-
-at-map : {A : Type 0} (g : A → ℕ) (l : List A) (d : A) (k : ℕ) → k < length l → at (map g l) k ≡ g (getD l k d)
-at-map g [] d k h = absurd (not-suc-le-zero h)
-at-map g (x ∷ xs) d zero h = refl
-at-map g (x ∷ xs) d (suc k) h = at-map g xs d k (le-of-suc-le-suc h)
 
 length-fronts : (least many : ℕ) (tails : List (List ℕ)) → length (fronts (run least many) tails) ≡ many * length tails
 length-fronts least zero tails = omega arith
@@ -80,17 +74,17 @@ box-at-place size (s ∷ ss) (c ∷ cs) i =
     ∙ ap₂ (λ (x : ℕ) (xs : List ℕ). x ∷ xs) z (box-at-place size ss cs (i .1))
 
 -- a place in a table is that of a list of argument codes
-pub record Placed (size : ℕ → ℕ) (params : List ℕ) (k : ℕ) : Type 0 where
+pub record CodesAt (size : ℕ → ℕ) (params : List ℕ) (k : ℕ) : Type 0 where
   pub codes : List ℕ
   pub inSorts : InSorts size params codes
   pub there : place size params codes ≡ k
 
-pub placed : (size : ℕ → ℕ) (params : List ℕ) (k : ℕ) → k < cells size params → Placed size params k
-placed size [] k h = record { codes = []; inSorts = tt; there = omega arith }
-placed size (s ∷ ss) k h =
+pub codes-at : (size : ℕ → ℕ) (params : List ℕ) (k : ℕ) → k < cells size params → CodesAt size params k
+codes-at size [] k h = record { codes = []; inSorts = tt; there = omega arith }
+codes-at size (s ∷ ss) k h =
     let n = cells size ss in
     let pos : 0 < n = elim (decLt 0 n) [ yes l ↦ l | no l ↦ let e : n ≡ 0 = omega arith in absurd (not-suc-le-zero (rw (e, mul-zero (size s)) at h)) ] in
-    let rest = placed size ss (k % n) (mod-lt k pos) in
+    let rest = codes-at size ss (k % n) (mod-lt k pos) in
     record {
       codes = k / n ∷ rest .codes;
       inSorts = (div-lt-iff-lt-mul pos .1 h, rest .inSorts);
@@ -270,7 +264,7 @@ module _ (M : Structure) (sh : Sheet) (w : WellFormed sh) where
         entry : (f : ℕ) → f < length (sh .symbols) → (k : ℕ) → k < cells (M .size) (symbolAt sh f .params) → at (encoded M sh) (offset sh (at (encoded M sh)) f + k) < at (encoded M sh) (symbolAt sh f .result)
         entry f h k l =
             let params = symbolAt sh f .params in
-            let x = placed (M .size) params k l in
+            let x = codes-at (M .size) params k l in
             let e : at (encoded M sh) (offset sh (at (encoded M sh)) f + k) ≡ M .table f (x .codes) =
             ap (λ (o : ℕ). at (encoded M sh) (o + k)) (encoded-offset f (omega arith))
             ∙ encoded-table f k h l
@@ -306,7 +300,7 @@ module _ (sh : Sheet) (w : WellFormed sh) (t : List ℕ) (l : WellLaid sh t) whe
             let r = located (length (sh .symbols)) i (omega arith) (omega (arith, l .extent)) in
             let f = r .symbol in
             let params = symbolAt sh f .params in
-            let x = placed (at t) params (r .k) (r .within) in
+            let x = codes-at (at t) params (r .k) (r .within) in
             ap (at (encoded (decoded sh t) sh)) (r .there)
             ∙ encoded-table (decoded sh t) sh w f (r .k) (r .below) (r .within)
             ∙ ap (at (tableBytes (decoded sh t) f params)) (sym (x .there))

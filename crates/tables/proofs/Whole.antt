@@ -8,16 +8,16 @@ use lib.ListN.{length}
 use lib.Dec.{leb}
 use borrow.Author.Tests.{eq-eqb, ne-eqb}
 use Rattle.logic.specs.Sheet.{Sheet, boundAt}
-use Rattle.logic.specs.Structure.{at}
-use Rattle.logic.proofs.Meaning.{sumTo-same}
-use Rattle.sheet.specs.Layout.{within}
+use Rattle.prelude.specs.Tests.{within, every}
+use Rattle.prelude.specs.Lists.{at}
+use Rattle.prelude.proofs.Tests.{and-no, every-same, and-first}
+use Rattle.prelude.proofs.Lists.{sumTo-same}
 use Rattle.sheet.specs.declared.Parsed.{Parsed}
-use Rattle.sheet.proofs.Bools.{and-no}
 use Rattle.tables.specs.Layout.{offset, extent}
-use Rattle.tables.specs.Tests.{every, sizesRight, entriesRight, wellLaid, inBounds}
+use Rattle.tables.specs.Tests.{sizesRight, entriesRight, wellLaid, inBounds}
 use Rattle.tables.specs.Parts.{Packs, Limited, Extents, Laying}
-use Rattle.tables.proofs.Arrays.{packs-views, symbols-packed, offset-same}
-use Rattle.tables.proofs.Tests.{every-same, and-first}
+use Rattle.tables.proofs.Packing.{packs-views, symbols-packed}
+use Rattle.tables.proofs.Offsets.{offset-same}
 
 -- the counts of a parsed accepted sheet are within the limits
 pub packs-limited : (sh : Sheet) (p : Parsed) → Packs sh p → Limited p
@@ -25,7 +25,7 @@ packs-limited sh p k =
     let s = packs-views sh p k in
     let w = k .formed in
     record {
-      sorts = omega (arith, s .sorts, w .sorts .1);
+      sorts = omega (arith, s .sorts, w .sorts);
       symbols = omega (arith, symbols-packed sh p k, w .symbols);
       terms = omega (arith, s .terms, w .terms);
       literals = omega (arith, s .literals, w .literals);

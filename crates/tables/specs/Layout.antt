@@ -1,14 +1,15 @@
--- The layout of tables (document 01, "The five questions"): the sizes first, one per sort, then each symbol's table in the order of the
--- symbols. A symbol without parameters has one cell; the first argument chooses the row.
+-- The interface: the layout of tables (docs/FORMAT.md, "Tables"): the sizes first, one per sort, then each symbol's table in the order of
+-- the symbols. A symbol without parameters has one cell; the first argument chooses the row.
 use Prim.Native.Nat.{ℕ, suc, _+_, _*_, _≤_, _<_}
 use mathlib.Core.Path.{_≡_}
 use mathlib.Core.List.{List, [], _∷_, _++_, map}
 use lib.ListN.{length}
 use Rattle.logic.specs.Sheet.{Sheet, Symbol, symbolAt}
-use Rattle.logic.specs.Structure.{Structure, at, sumTo}
-use Rattle.logic.specs.Order.{firsts}
-use Rattle.logic.specs.WellFormed.{Within}
-use Rattle.logic.specs.Box.{Range, box}
+use Rattle.prelude.specs.Tests.{Within}
+use Rattle.prelude.specs.Lists.{at, sumTo, firsts}
+use Rattle.prelude.specs.Limits.{mostCodes}
+use Rattle.logic.specs.Structure.{Structure}
+use Rattle.logic.specs.Box.{box}
 
 -- how many cells the table of a symbol with these parameters has
 abbrev pub cells : (ℕ → ℕ) → List ℕ → ℕ
@@ -47,10 +48,10 @@ tablesFrom M f (g ∷ gs) = tableBytes M f (g .params) ++ tablesFrom M (suc f) g
 abbrev pub encoded : Structure → Sheet → List ℕ
 encoded M sh = firsts (length (sh .bounds)) (M .size) ++ tablesFrom M 0 (sh .symbols)
 
--- tables are well-formed for a sheet (else cause 12): no size is missing, 0 or above 16, the length is right, and each entry lies
+-- tables are well-formed for a sheet (else cause 12): no size is missing, 0 or above the most codes, the length is right, and each entry lies
 -- below the size of its symbol's sort
 pub record WellLaid (sh : Sheet) (t : List ℕ) : Type 0 where
   pub sizes : length (sh .bounds) ≤ length t
-  pub size : (s : ℕ) → s < length (sh .bounds) → Within 1 16 (at t s)
+  pub size : (s : ℕ) → s < length (sh .bounds) → Within 1 mostCodes (at t s)
   pub extent : length t ≡ extent sh (at t)
   pub entry : (f : ℕ) → f < length (sh .symbols) → (k : ℕ) → k < cells (at t) (symbolAt sh f .params) → at t (offset sh (at t) f + k) < at t (symbolAt sh f .result)

@@ -1,24 +1,21 @@
--- The tests of judge (document 01, "The five questions"): whether tables are well laid, their sizes in bounds, and the statements satisfied.
-use Prim.Native.Nat.{ℕ, zero, suc, _+_}
+-- The interface: the tests of judge (docs/FORMAT.md, "The questions"): whether tables are well laid, their sizes in bounds, and the
+-- statements satisfied.
+use Prim.Native.Nat.{ℕ, suc, _+_}
 use mathlib.Core.Bool.{Bool, true, false, not, _&&_}
 use mathlib.Core.List.{List, [], _∷_}
 use lib.ListN.{length}
 use lib.Dec.{leb, ltb, eqb}
 use Rattle.logic.specs.Sheet.{Sheet, Literal, boundAt, symbolAt}
-use Rattle.logic.specs.Structure.{at, sumTo}
-use Rattle.sheet.specs.Layout.{if, within}
+use Rattle.prelude.specs.Tests.{if, within, every}
+use Rattle.prelude.specs.Lists.{at, sumTo}
+use Rattle.prelude.specs.Limits.{mostCodes}
 use Rattle.tables.specs.Layout.{cells, offset, extent}
 use Rattle.tables.specs.declared.Judgement.{Judgement}
 use Rattle.tables.specs.declared.Judgement.the-variants.{Fits, Broken}
 
--- every number below n passes the test
-abbrev pub every : ℕ → (ℕ → Bool) → Bool
-every zero p = true
-every (suc n) p = every n p && p n
-
--- no size is missing, 0 or above 16
+-- no size is missing, 0 or above the most codes
 abbrev pub sizesRight : Sheet → List ℕ → Bool
-sizesRight sh t = leb (length (sh .bounds)) (length t) && every (length (sh .bounds)) (λ s. within 1 16 (at t s))
+sizesRight sh t = leb (length (sh .bounds)) (length t) && every (length (sh .bounds)) (λ s. within 1 mostCodes (at t s))
 
 -- no entry of a symbol's table is at or past the size of the symbol's sort
 abbrev pub entriesRight : Sheet → List ℕ → ℕ → Bool

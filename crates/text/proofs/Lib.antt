@@ -3,3 +3,4 @@ pub mod Decimal
 pub mod PutNumber
 pub mod Lines
 pub mod Cells
+pub mod Hex

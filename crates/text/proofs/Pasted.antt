@@ -1,13 +1,13 @@
 -- Laws of a list written into a buffer: its length, two written one behind the other, one byte, and a lent tail that came back.
-use Prim.Native.Nat.{ℕ, zero, suc, _+_, _-_, _≤_, _<_}
-use native.Mathlib.Nat.{le-refl, le-of-eq, add-zero, add-assoc}
+use Prim.Native.Nat.{ℕ, _+_, _-_, _≤_, _<_}
+use native.Mathlib.Nat.{le-of-eq, add-zero, add-assoc}
 use native.Mathlib.Numerals.{add-one}
 use native.Mathlib.Omega.{arith}
-use mathlib.Core.Path.{_≡_, refl, sym, ap, _∙_}
+use mathlib.Core.Path.{_≡_, sym, ap, _∙_}
 use mathlib.Core.List.{List, [], _∷_, _++_, append-assoc, append-nil}
-use lib.ListN.{length, take, drop, set, length-append, length-take, length-drop, drop-of-length-le, take-append-drop}
+use lib.ListN.{length, take, drop, set, length-append, length-drop, drop-of-length-le, take-append-drop}
 use lib.Seq.{take-all, take-length, take-at, drop-at, drop-drop, set-split, length-take-le}
-use borrow.Rule.Slice.PartMut.{putMid, midOf, postOf}
+use borrow.Rule.Slice.PartMut.{putMid, midOf}
 use Rattle.text.specs.Text.{pasted, Wrote}
 
 pub length-pasted : (d : List ℕ) (i : ℕ) (s : List ℕ) → i + length s ≤ length d → length (pasted d i s) ≡ length d
@@ -75,6 +75,10 @@ module _ (d : List ℕ) (i : ℕ) (s d′ : List ℕ) (e : ℕ) (room : i + leng
             ∙ ap (λ (k : ℕ). pasted (pasted d i s) k t) (w .end)
             ∙ pasted-more d i s t room;
       }
+
+pub wrote-both :
+    {d : List ℕ} {i : ℕ} {s d′ : List ℕ} {e : ℕ} {t d″ : List ℕ} {r : ℕ} → Wrote d i s d′ e → Wrote d′ e t d″ r → Wrote d i (s ++ t) d″ r
+wrote-both {d} {i} {s} {d′} {e} {t} {d″} {r} w v = wrote-then d i s d′ e (omega (arith, w .end, w .within)) w t d″ r v
 
 pub wrote-three :
     (d : List ℕ) (i : ℕ) (s t u : List ℕ) {d₁ d₂ d₃ : List ℕ} {e₁ e₂ e₃ : ℕ} → i + (length s + length t) ≤ length d

@@ -1,7 +1,8 @@
--- The lines that the find program prints (document 01, "Worked sheets"), as bytes, and where they go in a buffer.
+-- Interface. The lines that the programs print (docs/FORMAT.md, "The find program" and "Asking line by line"), as bytes, and where they go in a
+-- buffer.
 use Prim.Native.Nat.{ℕ, zero, suc, _+_, _/_, _%_, _≤_}
 use mathlib.Core.Path.{_≡_}
-use mathlib.Core.Bool.{true, false}
+use mathlib.Core.Bool.{true, false, cond}
 use mathlib.Core.List.{List, [], _∷_, _++_}
 use lib.ListN.{length, take, drop}
 use lib.Dec.{ltb}
@@ -42,6 +43,25 @@ nameWord = 110 ∷ 97 ∷ 109 ∷ 101 ∷ []
 -- a line: a word, and numbers after it
 abbrev pub line : List ℕ → List ℕ → List ℕ
 line word ns = word ++ (spaced ns ++ lineFeed)
+
+-- a digit below 16 as a character: `0` to `9`, then `a` to `f`
+abbrev pub hexDigit : ℕ → ℕ
+hexDigit d = cond (ltb d 10) (48 + d) (87 + d)
+
+-- bytes in hexadecimal, two digits each
+abbrev pub hex : List ℕ → List ℕ
+hex [] = []
+hex (b ∷ bs) = hexDigit (b / 16) ∷ (hexDigit (b % 16) ∷ hex bs)
+
+-- bytes as a word: `-` where there are none
+abbrev pub shown : List ℕ → List ℕ
+shown [] = 45 ∷ []
+shown (b ∷ bs) = hex (b ∷ bs)
+
+-- the line of an answer whole: the sum of the sizes, the codes, the tables
+abbrev pub answerLine : ℕ → List ℕ → List ℕ → List ℕ
+answerLine sum codes tables =
+    foundWord ++ (spaced (sum ∷ []) ++ ((space ∷ shown codes) ++ ((space ∷ shown tables) ++ lineFeed)))
 
 -- the list s in the buffer d from place i on; the rest of d stays
 abbrev pub pasted : List ℕ → ℕ → List ℕ → List ℕ

@@ -1,7 +1,7 @@
--- `congruence::label_of` meets its contract.
+-- `congruence::label_of` meets its contract. An argument past the terms is its own label.
 use native.Mathlib.Omega.{arith}
 use mathlib.Core.Path.{ap, sym, _∙_}
-use Rattle.logic.specs.Structure.{at}
+use Rattle.prelude.specs.Lists.{at}
 use Rattle.congruence.proofs.Sweeps.{named-there, named-missing}
 use borrow.Author.Needs.{needs}
 use Rattle.congruence.proofs.label_of.Statement.{statement}

@@ -3,23 +3,23 @@ use mathlib.Core.Path.{_≡_, _∙_, sym}
 use mathlib.Core.Logic.{inl, inr}
 use lib.ListN.{length}
 use Prim.Native.Nat.{ℕ, _≤_, _-_}
-use Rattle.logic.specs.Structure.{at}
+use Rattle.prelude.specs.Lists.{at}
 use Rattle.congruence.specs.Closure.{relabel}
 use Rattle.congruence.proofs.Labels.{relabel-hit, relabel-miss}
-use Rattle.congruence.proofs.Arrays.{Written, written-none, written-more, written-kept, written-map}
+use Rattle.congruence.proofs.Replacing.{Replaced, replaced-none, replaced-more, replaced-kept, replaced-map}
 use borrow.Author.Needs.{needs}
 use native.Mathlib.Omega.{arith}
 use Rattle.congruence.proofs.merged.Statement.{statement}
 use Rattle.congruence.proofs.merged.Tie as tie
 
 abbrev Inv-loop : tie.InvT-loop
-Inv-loop lo hi out₀ k₀ out k = (k ≤ 128) × Written (λ m. relabel lo hi (at out₀ m)) out₀ k out
+Inv-loop lo hi out₀ k₀ out k = (k ≤ 128) × Replaced (λ m. relabel lo hi (at out₀ m)) out₀ k out
 
 abbrev μ-loop : tie.MeasureT-loop
 μ-loop lo hi out₀ k₀ out k = 128 - k
 
 loop-holds : tie.Need-loop-holds Inv-loop μ-loop
-loop-holds c = let long : length (c .args .labels) ≡ 128 = omega arith in (omega arith, written-none _ _ long)
+loop-holds c = let long : length (c .args .labels) ≡ 128 = omega arith in (omega arith, replaced-none _ _ long)
 
 array-read-if1 : tie.Need-array-read-if1 Inv-loop μ-loop
 array-read-if1 c = search needs
@@ -45,8 +45,8 @@ loop-again c =
     let f : ℕ → ℕ = λ x. relabel lo hi (at old x) in (
       omega arith,
       elim (c .if1 .came) [
-        | inl w ↦ rw (w .1) (written-more f old k _ so lo (omega arith) (sym (relabel-hit lo hi _ (sym old-label ∙ w .0 .taken))))
-        | inr w ↦ rw (w .1) (written-kept f old k _ so (old-label ∙ sym (relabel-miss lo hi _ (λ e. w .0 .left (old-label ∙ e)))))
+        | inl w ↦ rw (w .1) (replaced-more f old k _ so lo (omega arith) (sym (relabel-hit lo hi _ (sym old-label ∙ w .0 .taken))))
+        | inr w ↦ rw (w .1) (replaced-kept f old k _ so (old-label ∙ sym (relabel-miss lo hi _ (λ e. w .0 .left (old-label ∙ e)))))
       ],
     )
 
@@ -54,7 +54,7 @@ returns : tie.Need-returns Inv-loop μ-loop
 returns c =
     let long : length (c .before .before .args .labels) ≡ 128 = omega arith in
     let full : c .before .loop .k ≡ 128 = omega arith in
-    written-map _ _ _ long (rw full at (c .before .loop .inv .1))
+    replaced-map _ _ _ long (rw full at (c .before .loop .inv .1))
 
 pub merged-spec : {M : Type 1} → statement M
 merged-spec =

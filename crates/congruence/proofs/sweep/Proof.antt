@@ -1,7 +1,7 @@
--- `congruence::sweep` meets its contract. Where no label has changed, the terms below j are settled.
+-- `congruence::sweep` meets its contract. Where no label has changed, the terms below j have the labels of their twins.
 use mathlib.Core.Path.{_≡_}
 use Prim.Native.Nat.{_≤_, _-_}
-use Rattle.logic.specs.Structure.{at}
+use Rattle.prelude.specs.Lists.{at}
 use Rattle.sheet.specs.Packed.{view}
 use Rattle.congruence.proofs.Sweeps.{SweptTo, swept-none, swept-more, swept-all}
 use borrow.Author.Needs.{needs}

@@ -2,7 +2,7 @@
 use native.Mathlib.Numerals.{add-one}
 use Prim.Native.Nat.{_≤_, _-_, _*_}
 use mathlib.Core.Path.{_≡_}
-use Rattle.logic.specs.Structure.{at, sumTo}
+use Rattle.prelude.specs.Lists.{at, sumTo}
 use borrow.Author.Needs.{needs}
 use native.Mathlib.Omega.{arith}
 use Rattle.congruence.proofs.weight.Statement.{statement}

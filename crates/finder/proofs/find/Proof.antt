@@ -1,34 +1,36 @@
--- `finder::find` meets its contract.
+-- `finder::find` meets its contract: a refusal is the parser's, and what was read goes on to `find_parsed`.
+use Rattle.finder.specs.Find.{ReadFrom}
 use Rattle.finder.proofs.Searching.{refusal-finds, read-from, read-refused}
-use borrow.Author.Needs.{needs}
 use Rattle.finder.proofs.find.Statement.{statement}
 use Rattle.finder.proofs.find.Tie as tie
 
+-- where the sheet is not refused, it was read from the bytes
+abbrev reads : (e : tie.Else1) → ReadFrom (e .before .parse .result .sheet)
+reads e = read-from (e .before .before .before .before .before .args .sheet .now) (e .before .parse .result) (e .before .parse .ensures) (e .if1 .left)
+
 parse-requires : tie.Need-parse-requires
-parse-requires c κs = search needs
+parse-requires c κs = tt
 
 returns : tie.Need-returns
 returns c =
     let m = c .before .before .before .before .before in
-    let f = refusal-finds (m .args .sheet .now) (m .args .codes .now) (m .args .tables .now) _ _ (read-refused (m .args .sheet .now) (c .before .parse .result) (c .before .parse .ensures) _ _ (c .if1 .taken)) in
+    let parsed = c .before .parse in
+    let f = refusal-finds (m .args .sheet .now) (m .args .codes .now) (m .args .tables .now) _ _ (read-refused (m .args .sheet .now) (parsed .result) (parsed .ensures) _ _ (c .if1 .taken)) in
     (f .result, (f .codes, f .tables))
 
 find-parsed-requires : tie.Need-find-parsed-requires
-find-parsed-requires c κs =
-    let m = c .before .before .before .before .before .before .before .before in
-    read-from (m .args .sheet .now) (c .before .before .before .before .parse .result) (c .before .before .before .before .parse .ensures) (c .before .before .before .if1 .left)
+find-parsed-requires c κs = reads (c .before .before .before)
 
 same-length : tie.Need-same-length
-same-length c = search needs
+same-length c = c .before .before .before .before .find-parsed .kept .1 .0
 
 same-length-2 : tie.Need-same-length-2
-same-length-2 c = search needs
+same-length-2 c = c .before .before .before .before .find-parsed .kept .1 .1 .0
 
 returns-2 : tie.Need-returns-2
 unfolding read-from
 returns-2 c =
-    let m = c .before .before .before .before .before .before .before .before .before .before .before .before .before in
-    let f = c .before .before .before .before .find-parsed .ensures (read-from (m .args .sheet .now) (c .before .before .before .before .before .before .before .before .before .parse .result) (c .before .before .before .before .before .before .before .before .before .parse .ensures) (c .before .before .before .before .before .before .before .before .if1 .left)) in
+    let f = c .before .before .before .before .find-parsed .ensures (reads (c .before .before .before .before .before .before .before .before)) in
     (f .result, (f .codes, f .tables))
 
 pub find-spec : {M : Type 1} → statement M

@@ -1,22 +1,30 @@
--- `finder::symbol_table` meets its contract.
+-- `finder::symbol_table` meets its contract: the terms passed have been put into the table of unforced codes, t₀ in the invariant.
 use Prim.Native.Nat.{_-_, _≤_}
 use mathlib.Core.Path.{refl, sym, ap, _∙_}
 use native.Mathlib.Nat.{le-refl}
 use native.Mathlib.Omega.{arith}
-use Rattle.logic.specs.Structure.{at}
+use Rattle.prelude.specs.Lists.{at}
 use Rattle.sheet.specs.Packed.{view}
-use Rattle.finder.proofs.Filling.{FilledFrom, from-none, from-skip, from-put, from-all}
+use Rattle.tables.specs.Grid.{cell}
+use Rattle.finder.specs.Parts.{unforcedAt}
+use Rattle.finder.proofs.Filling.{FilledFrom, from-none, from-skip, from-put, from-all, filled-table}
+use borrow.Author.Needs.{needs}
 use Rattle.finder.proofs.symbol_table.Statement.{statement}
 use Rattle.finder.proofs.symbol_table.Tie as tie
 
 abbrev Inv-loop : tie.InvT-loop
-Inv-loop symbol p codes t₀ i₀ t i = (i ≤ p .terms) × FilledFrom (view p) (at codes) symbol i t
+Inv-loop symbol rows columns p codes t₀ i₀ t i = (i ≤ p .terms) × FilledFrom (view p) (at codes) symbol (cell t₀) 16 16 i t
 
 abbrev μ-loop : tie.MeasureT-loop
-μ-loop symbol p codes t₀ i₀ t i = i
+μ-loop symbol rows columns p codes t₀ i₀ t i = i
+
+unforced-table-requires : tie.Need-unforced-table-requires Inv-loop μ-loop
+unforced-table-requires c κs = search needs
 
 loop-holds : tie.Need-loop-holds Inv-loop μ-loop
-loop-holds c = (le-refl _, from-none (view (c .args .t1)) (at (c .args .t2)) (c .args .symbol))
+loop-holds c =
+    let m = c .before in
+    (le-refl _, from-none (view (m .args .t1)) (at (m .args .t2)) (m .args .symbol) 16 16 (c .unforced-table .result))
 
 sub-i : tie.Need-sub-i Inv-loop μ-loop
 sub-i c = omega arith
@@ -56,22 +64,27 @@ array-read-with-cell c = omega arith
 
 with-cell-requires : tie.Need-with-cell-requires Inv-loop μ-loop
 with-cell-requires c κs =
-    let m = c .before .before .before .before .before .before .before .before .before .before .before in
-    (omega (arith, c .before .wide4 .ensures .0, m .pre .1 (c .before .before .before .before .wide2 .result)), omega (arith, c .wide5 .ensures .0, m .pre .1 (c .before .before .wide3 .result)))
+    let m = c .before .before .before .before .before .before .before .before .before .before .before .before in
+    (omega (arith, c .before .wide4 .ensures .0, m .pre .0 .1 (c .before .before .before .before .wide2 .result)), omega (arith, c .wide5 .ensures .0, m .pre .0 .1 (c .before .before .wide3 .result)))
 
 loop-less : tie.Need-loop-less Inv-loop μ-loop
 loop-less c = omega arith
 
 loop-again : tie.Need-loop-again Inv-loop μ-loop
 loop-again c =
-    let m = c .before .before .before .before .before .before .before .before .before .before .before .before in
-    let l = c .before .before .before .before .before .before .before .before .before .before .before in (
+    let tested = c .before .before .before .before .before .before .before in
+    let l = tested .before .before .before .before in
+    let m = l .before .before in
+    let arg0 = c .before .before .before .before .before .wide2 in
+    let arg1 = c .before .before .before .wide3 in
+    let row = c .before .before .wide4 in
+    let col = c .before .wide5 in (
       omega arith,
-      from-put (view (m .args .t1)) (at (m .args .t2)) (m .args .symbol) (l .loop .i) (l .loop .t) (c .before .before .before .before .before .before .before .before .before .before .loop-test .taken) (l .loop .inv .0) (l .loop .inv .1)
-          (c .with-cell .result) (c .before .before .wide4 .result) (c .before .wide5 .result) (at (m .args .t2) (l .loop .i - 1))
-          (sym (c .before .before .before .before .before .before .before .before .wide .ensures .0) ∙ c .before .before .before .before .before .before .before .if1 .taken)
-          (c .before .before .wide4 .ensures .0 ∙ ap (at (m .args .t2)) (c .before .before .before .before .before .wide2 .ensures .0))
-          (c .before .wide5 .ensures .0 ∙ ap (at (m .args .t2)) (c .before .before .before .wide3 .ensures .0))
+      from-put (view (m .args .t1)) (at (m .args .t2)) (m .args .symbol) (cell (l .before .unforced-table .result)) 16 16 (l .loop .i) (l .loop .t) (tested .before .before .before .loop-test .taken) (l .loop .inv .0) (l .loop .inv .1)
+          (c .with-cell .result) (row .result) (col .result) (at (m .args .t2) (l .loop .i - 1))
+          (sym (tested .before .wide .ensures .0) ∙ tested .if1 .taken)
+          (row .ensures .0 ∙ ap (at (m .args .t2)) (arg0 .ensures .0))
+          (col .ensures .0 ∙ ap (at (m .args .t2)) (arg1 .ensures .0))
           refl
           (c .with-cell .ensures),
     )
@@ -81,18 +94,22 @@ loop-less-2 c = omega arith
 
 loop-again-2 : tie.Need-loop-again-2 Inv-loop μ-loop
 loop-again-2 c =
-    let m = c .before .before .before .before .before in
-    let l = c .before .before .before .before in (
+    let l = c .before .before .before .before in
+    let m = l .before .before in (
       omega arith,
-      from-skip (view (m .args .t1)) (at (m .args .t2)) (m .args .symbol) (l .loop .i) (l .loop .t) (c .before .before .before .loop-test .taken) (l .loop .inv .0) (l .loop .inv .1)
+      from-skip (view (m .args .t1)) (at (m .args .t2)) (m .args .symbol) (cell (l .before .unforced-table .result)) 16 16 (l .loop .i) (l .loop .t) (c .before .before .before .loop-test .taken) (l .loop .inv .0) (l .loop .inv .1)
           (λ e. c .if1 .left (c .before .wide .ensures .0 ∙ e)),
     )
 
 returns : tie.Need-returns Inv-loop μ-loop
-returns c =
-    let m = c .before .before in
+returns c sh size k h =
     let l = c .before in
-    from-all (view (m .args .t1)) (at (m .args .t2)) (m .args .symbol) (l .loop .i) (l .loop .t) (omega arith) (l .loop .inv .1)
+    let m = l .before .before in
+    let P = view (m .args .t1) in
+    let start = l .before .unforced-table in
+    filled-table P (at (m .args .t2)) (m .args .symbol) (P .terms) (cell (start .result)) (unforcedAt sh size (at (m .args .t2)) (m .args .symbol)) (m .args .rows) (m .args .columns) (l .loop .t)
+    (omega arith) (omega arith) (start .ensures sh size k h)
+    (from-all P (at (m .args .t2)) (m .args .symbol) (cell (start .result)) 16 16 (l .loop .i) (l .loop .t) (omega arith) (l .loop .inv .1))
 
 pub symbol-table-spec : {M : Type 1} → statement M
 symbol-table-spec =
@@ -100,6 +117,7 @@ symbol-table-spec =
     (tie.spec
     Inv-loop
     μ-loop
+    unforced-table-requires
     loop-holds
     sub-i
     element-copy-out-wide

@@ -1,10 +1,13 @@
--- `finder::write_tables` meets its contract.
+-- `finder::write_tables` meets its contract: the tables of the symbols passed stand in the buffer, each in its stretch.
 use Prim.Native.Nat.{ℕ, _+_, _-_, _*_, _≤_, _<_}
 use mathlib.Core.Path.{_≡_, refl, ap, ap₂, sym, _∙_}
+use mathlib.Core.List.{List}
+use lib.ListN.{length}
 use borrow.Rule.Slice.PartMut.{mid-len}
 use native.Mathlib.Omega.{arith}
-use Rattle.logic.specs.Structure.{at}
+use Rattle.prelude.specs.Lists.{at}
 use Rattle.tables.specs.Parts.{width}
+use Rattle.sheet.specs.declared.Parsed.{Parsed}
 use Rattle.finder.proofs.Writing.{TablesTo, limits, tables-none, rows-fit, next-offset, stretch-within, tables-more, tables-all}
 use Rattle.finder.proofs.write_tables.Statement.{statement}
 use Rattle.finder.proofs.write_tables.Tie as tie
@@ -14,6 +17,30 @@ Inv-loop out₀ sizes codes p offsets n f₀ out f = TablesTo p (at sizes) (at c
 
 abbrev μ-loop : tie.MeasureT-loop
 μ-loop out₀ sizes codes p offsets n f₀ out f = n - f
+
+-- a turn of the loop: the parsed sheet, sizes, codes and offsets; that there is a symbol left; the rows and columns of its table, and its stretch
+module _ (l : tie.At-loop Inv-loop μ-loop) where
+  abbrev p : Parsed
+  p = l .before .before .before .args .t2
+
+  abbrev size : ℕ → ℕ
+  size = at (l .before .before .before .args .sizes)
+
+  abbrev code : ℕ → ℕ
+  code = at (l .before .before .before .args .codes)
+
+  abbrev offsets : List ℕ
+  offsets = l .before .extents .result
+
+  module _ (more : l .loop .f < p .symbols) where
+    fit : (width size (at (p .param0) (l .loop .f)) ≤ 16) × (width size (at (p .param1) (l .loop .f)) ≤ 16)
+    fit = rows-fit p size code (l .before .before .before .args .out .now) (l .before .before .before .pre) offsets (l .loop .out) (l .loop .f) (l .loop .inv .0) more
+
+    next : at offsets (l .loop .f + 1) ≡ at offsets (l .loop .f) + width size (at (p .param0) (l .loop .f)) * width size (at (p .param1) (l .loop .f))
+    next = next-offset p size code (l .before .before .before .args .out .now) (l .before .before .before .pre) offsets (l .loop .out) (l .loop .f) (l .loop .inv .0) more
+
+    inside : at offsets (l .loop .f + 1) ≤ length (l .loop .out)
+    inside = stretch-within p size code (l .before .before .before .args .out .now) (l .before .before .before .pre) offsets (l .loop .out) (l .loop .f) (l .loop .inv .0) more
 
 extents-requires : tie.Need-extents-requires Inv-loop μ-loop
 extents-requires c κs =
@@ -28,11 +55,6 @@ loop-holds c =
       refl,
       limits (m .args .t2) (at (m .args .sizes)) (at (m .args .codes)) (m .args .out .now) (m .pre) .symbols,
     )
-
-symbol-table-requires : tie.Need-symbol-table-requires Inv-loop μ-loop
-symbol-table-requires c κs =
-    let m = c .before .before .before .before in
-    (limits (m .args .t2) (at (m .args .sizes)) (at (m .args .codes)) (m .args .out .now) (m .pre) .terms, m .pre .codes)
 
 element-copy-out-wide : tie.Need-element-copy-out-wide Inv-loop μ-loop
 element-copy-out-wide c = omega arith
@@ -52,6 +74,15 @@ wide-requires-2 c κs = tt
 width-of-requires-2 : tie.Need-width-of-requires-2 Inv-loop μ-loop
 width-of-requires-2 c κs = tt
 
+symbol-table-requires : tie.Need-symbol-table-requires Inv-loop μ-loop
+symbol-table-requires c κs =
+    let l = c .before .before .before .before .before .before .before in
+    let m = l .before .before .before in
+    let more : l .loop .f < p l .symbols = omega arith in
+    let rows : c .before .before .before .width-of .result ≡ width (size l) (at (p l .param0) (l .loop .f)) = c .before .before .before .width-of .ensures .0 ∙ ap (width (size l)) (c .before .before .before .before .wide .ensures .0) in
+    let columns : c .width-of2 .result ≡ width (size l) (at (p l .param1) (l .loop .f)) = c .width-of2 .ensures .0 ∙ ap (width (size l)) (c .before .wide2 .ensures .0) in
+    ((limits (p l) (size l) (code l) (m .args .out .now) (m .pre) .terms, m .pre .codes), (omega (arith, l .loop .inv), omega (arith, fit l more .0, rows), omega (arith, fit l more .1, columns)))
+
 mul-start : tie.Need-mul-start Inv-loop μ-loop
 mul-start c = omega arith
 
@@ -69,38 +100,30 @@ array-read-end c = omega arith
 
 sub-write-table : tie.Need-sub-write-table Inv-loop μ-loop
 sub-write-table c =
-    let m = c .before .before .before .before .before .before .before .before .before .before .before in
     let l = c .before .before .before .before .before .before .before .before in
-    let more : l .loop .f < m .args .t2 .symbols = omega arith in
-    omega (arith, next-offset (m .args .t2) (at (m .args .sizes)) (at (m .args .codes)) (m .args .out .now) (m .pre) (l .before .extents .result) (l .loop .out) (l .loop .f) (l .loop .inv .0) more)
+    omega (arith, next l (omega arith))
 
 part-write-table-start : tie.Need-part-write-table-start Inv-loop μ-loop
 part-write-table-start c =
-    let m = c .before .before .before .before .before .before .before .before .before .before .before in
     let l = c .before .before .before .before .before .before .before .before in
-    let more : l .loop .f < m .args .t2 .symbols = omega arith in
-    omega (arith, next-offset (m .args .t2) (at (m .args .sizes)) (at (m .args .codes)) (m .args .out .now) (m .pre) (l .before .extents .result) (l .loop .out) (l .loop .f) (l .loop .inv .0) more)
+    omega (arith, next l (omega arith))
 
 part-write-table-end : tie.Need-part-write-table-end Inv-loop μ-loop
 part-write-table-end c =
-    let m = c .before .before .before .before .before .before .before .before .before .before .before in
     let l = c .before .before .before .before .before .before .before .before in
-    let more : l .loop .f < m .args .t2 .symbols = omega arith in
-    stretch-within (m .args .t2) (at (m .args .sizes)) (at (m .args .codes)) (m .args .out .now) (m .pre) (l .before .extents .result) (l .loop .out) (l .loop .f) (l .loop .inv .0) more
+    inside l (omega arith)
 
 write-table-requires : tie.Need-write-table-requires Inv-loop μ-loop
 write-table-requires c κs =
-    let m = c .before .before .before .before .before .before .before .before .before .before .before .before in
     let l = c .before .before .before .before .before .before .before .before .before in
-    let more : l .loop .f < m .args .t2 .symbols = omega arith in
-    let fit = rows-fit (m .args .t2) (at (m .args .sizes)) (at (m .args .codes)) (m .args .out .now) (m .pre) (l .before .extents .result) (l .loop .out) (l .loop .f) (l .loop .inv .0) more in
-    let r : c .before .before .before .before .width-of .result ≡ width (at (m .args .sizes)) (at (m .args .t2 .param0) (l .loop .f)) = (c .before .before .before .before .width-of .ensures .0 ∙ ap (width (at (m .args .sizes))) (c .before .before .before .before .before .wide .ensures .0)) in
-    let s : c .before .width-of2 .result ≡ width (at (m .args .sizes)) (at (m .args .t2 .param1) (l .loop .f)) = (c .before .width-of2 .ensures .0 ∙ ap (width (at (m .args .sizes))) (c .before .before .wide2 .ensures .0)) in (
-      omega (arith, fit .0, r),
-      omega (arith, fit .1, s),
-      mid-len (at (l .before .extents .result) (l .loop .f)) (at (l .before .extents .result) (l .loop .f + 1)) (l .loop .out) (stretch-within (m .args .t2) (at (m .args .sizes)) (at (m .args .codes)) (m .args .out .now) (m .pre) (l .before .extents .result) (l .loop .out) (l .loop .f) (l .loop .inv .0) more)
-          ∙ omega (arith, next-offset (m .args .t2) (at (m .args .sizes)) (at (m .args .codes)) (m .args .out .now) (m .pre) (l .before .extents .result) (l .loop .out) (l .loop .f) (l .loop .inv .0) more)
-          ∙ sym (ap₂ (λ (a b : ℕ). a * b) r s),
+    let more : l .loop .f < p l .symbols = omega (arith, c .before .before .before .before .before .before .before .before .loop-test .taken, l .loop .inv .1) in
+    let rows : c .before .before .before .before .before .width-of .result ≡ width (size l) (at (p l .param0) (l .loop .f)) = c .before .before .before .before .before .width-of .ensures .0 ∙ ap (width (size l)) (c .before .before .before .before .before .before .wide .ensures .0) in
+    let columns : c .before .before .width-of2 .result ≡ width (size l) (at (p l .param1) (l .loop .f)) = c .before .before .width-of2 .ensures .0 ∙ ap (width (size l)) (c .before .before .before .wide2 .ensures .0) in (
+      omega (arith, fit l more .0, rows),
+      omega (arith, fit l more .1, columns),
+      mid-len (at (offsets l) (l .loop .f)) (at (offsets l) (l .loop .f + 1)) (l .loop .out) (inside l more)
+          ∙ omega (arith, next l more)
+          ∙ sym (ap₂ (λ (a b : ℕ). a * b) rows columns),
     )
 
 add-f : tie.Need-add-f Inv-loop μ-loop
@@ -111,13 +134,17 @@ loop-less c = omega arith
 
 loop-again : tie.Need-loop-again Inv-loop μ-loop
 loop-again c =
-    let m = c .before .before .before .before .before .before .before .before .before .before .before .before .before .before .before in
     let l = c .before .before .before .before .before .before .before .before .before .before .before .before in
-    let more : l .loop .f < m .args .t2 .symbols = omega (arith, c .before .before .before .before .before .before .before .before .before .before .before .loop-test .taken, l .loop .inv .1) in (
-      tables-more (m .args .t2) (at (m .args .sizes)) (at (m .args .codes)) (m .args .out .now) (m .pre) (l .before .extents .result) (l .loop .out) (l .loop .f) (l .loop .inv .0) more (c .before .before .before .before .before .before .before .before .before .before .symbol-table .result) (c .before .before .write-table .last .0) (c .before .before .before .before .before .before .before .width-of .result) (c .before .before .before .before .width-of2 .result)
-          (c .before .before .before .before .before .before .before .before .before .before .symbol-table .ensures)
-          (c .before .before .before .before .before .before .before .width-of .ensures .0 ∙ ap (width (at (m .args .sizes))) (c .before .before .before .before .before .before .before .before .wide .ensures .0))
-          (c .before .before .before .before .width-of2 .ensures .0 ∙ ap (width (at (m .args .sizes))) (c .before .before .before .before .before .wide2 .ensures .0))
+    let m = l .before .before .before in
+    let more : l .loop .f < p l .symbols = omega (arith, c .before .before .before .before .before .before .before .before .before .before .before .loop-test .taken, l .loop .inv .1) in
+    let filled = c .before .before .before .before .symbol-table in
+    let rows = c .before .before .before .before .before .before .before .before .width-of in
+    let columns = c .before .before .before .before .before .width-of2 in (
+      tables-more (p l) (size l) (code l) (m .args .out .now) (m .pre) (offsets l) (l .loop .out) (l .loop .f) (l .loop .inv .0) more
+          (filled .result) (c .before .before .write-table .last .0) (rows .result) (columns .result)
+          (filled .ensures)
+          (rows .ensures .0 ∙ ap (width (size l)) (c .before .before .before .before .before .before .before .before .before .wide .ensures .0))
+          (columns .ensures .0 ∙ ap (width (size l)) (c .before .before .before .before .before .before .wide2 .ensures .0))
           (c .before .before .write-table .ensures),
       l .loop .inv .1,
       l .loop .inv .2,
@@ -128,9 +155,9 @@ same-length c = c .before .loop .inv .0 .long
 
 returns : tie.Need-returns Inv-loop μ-loop
 returns c =
-    let m = c .before .before .before .before in
     let l = c .before in
-    tables-all (m .args .t2) (at (m .args .sizes)) (at (m .args .codes)) (m .args .out .now) (m .pre) (l .before .extents .result) (l .loop .out) (l .loop .f) (l .loop .inv .0) (omega arith)
+    let m = l .before .before .before in
+    tables-all (p l) (size l) (code l) (m .args .out .now) (m .pre) (offsets l) (l .loop .out) (l .loop .f) (l .loop .inv .0) (omega arith)
 
 pub write-tables-spec : {M : Type 1} → statement M
 write-tables-spec =
@@ -140,13 +167,13 @@ write-tables-spec =
     μ-loop
     extents-requires
     loop-holds
-    symbol-table-requires
     element-copy-out-wide
     wide-requires
     width-of-requires
     element-copy-out-wide-2
     wide-requires-2
     width-of-requires-2
+    symbol-table-requires
     mul-start
     array-read-start
     add-end

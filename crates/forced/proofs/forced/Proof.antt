@@ -1,8 +1,8 @@
 -- `forced::forced` meets its contract: one law for each way out.
 use borrow.Author.Needs.{needs}
 use native.Mathlib.Omega.{arith}
-use Rattle.logic.specs.Structure.{at}
-use Rattle.forced.proofs.Replies.{refused-reply, parsed-closable, parsed-absent-first, parsed-absent-second, parsed-other-fields, parsed-one-group, parsed-two-groups}
+use Rattle.prelude.specs.Lists.{at}
+use Rattle.forced.proofs.Replies.{refused-reply, parsed-closable, parsed-absent-first, parsed-absent-second, parsed-other-sorts, parsed-one-group, parsed-two-groups}
 use Rattle.forced.proofs.forced.Statement.{statement}
 use Rattle.forced.proofs.forced.Tie as tie
 
@@ -25,7 +25,7 @@ element-copy-out-if4-2 : tie.Need-element-copy-out-if4-2
 element-copy-out-if4-2 c = omega (arith, parsed-closable _ _ (c .before .before .before .before .before .before .parse .ensures) (c .before .before .before .before .if1 .left) .terms)
 
 returns-4 : tie.Need-returns-4
-returns-4 c = parsed-other-fields _ _ (c .before .before .before .before .before .before .before .before .parse .ensures) (c .before .before .before .before .before .before .if1 .left) _ _ (omega arith) (omega arith) (c .if4 .taken)
+returns-4 c = parsed-other-sorts _ _ (c .before .before .before .before .before .before .before .before .parse .ensures) (c .before .before .before .before .before .before .if1 .left) _ _ (omega arith) (omega arith) (c .if4 .taken)
 
 groups-requires : tie.Need-groups-requires
 groups-requires c κs = parsed-closable _ _ (c .before .before .before .before .before .before .before .before .parse .ensures) (c .before .before .before .before .before .before .if1 .left)

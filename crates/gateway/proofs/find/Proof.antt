@@ -1,4 +1,4 @@
--- `gateway::find` meets its contract.
+-- `gateway::find` meets its contract. Sums and places are small, so that no cast loses a bit.
 use native.Mathlib.Omega.{arith}
 use mathlib.Core.Path.{ap, sym, _∙_}
 use lib.ListN.{length}

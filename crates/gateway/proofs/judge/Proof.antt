@@ -1,4 +1,4 @@
--- `gateway::judge` meets its contract.
+-- `gateway::judge` meets its contract. Places and statement numbers are small, so that no cast loses a bit.
 use native.Mathlib.Omega.{arith}
 use mathlib.Core.Path.{ap, sym, _∙_}
 use Rattle.gateway.specs.Number.{judgeNumber}

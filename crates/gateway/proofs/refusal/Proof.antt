@@ -1,4 +1,4 @@
--- `gateway::refusal` meets its contract.
+-- `gateway::refusal` meets its contract: the number times two to the 16, and the place, fit 32 bits.
 use native.Mathlib.Omega.{arith}
 use borrow.Author.Needs.{needs}
 use Rattle.gateway.proofs.refusal.Statement.{statement}

@@ -1,7 +1,7 @@
 -- `judge::judge_parsed` meets its contract. Each return is one law of proofs/Replies.antt.
 use mathlib.Core.Path.{sym, _∙_}
 use borrow.Author.Tests.{not-true, not-false}
-use Rattle.logic.specs.Structure.{at}
+use Rattle.prelude.specs.Lists.{at}
 use Rattle.tables.proofs.Whole.{laying, copied-sizes, in-bounds-same}
 use Rattle.judge.proofs.Replies.{judged-refused, judged-out, judged-statements}
 use borrow.Author.Needs.{needs}

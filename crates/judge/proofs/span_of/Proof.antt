@@ -11,7 +11,7 @@ use Rattle.judge.proofs.span_of.Tie as tie
 returns : tie.Need-returns
 returns c =
     let s = c .before .before .before .args in
-    λ sh k. span-missing sh (s .p) (s .t .now) (s .name) k (c .if1 .taken)
+    λ sh k. span-missing sh (s .p) (s .t .now) (s .symbol) k (c .if1 .taken)
 
 well-laid-requires : tie.Need-well-laid-requires
 well-laid-requires c κs = search needs
@@ -20,7 +20,7 @@ returns-2 : tie.Need-returns-2
 returns-2 c =
     let s = c .before .before .before .before .before .args in
     let r = c .before .well-laid in
-    λ sh k. span-refused sh (s .t .now) (s .name) (sym (r .ensures sh k) ∙ not-true (r .result) (c .if2 .taken))
+    λ sh k. span-refused sh (s .t .now) (s .symbol) (sym (r .ensures sh k) ∙ not-true (r .result) (c .if2 .taken))
 
 sizes-of-requires : tie.Need-sizes-of-requires
 sizes-of-requires c κs = search needs
@@ -50,7 +50,7 @@ returns-3 c =
     let z = c .before .sizes-of in
     let o = c .extents in
     λ sh k.
-    span-found sh (s .p) (z .result) (o .result) (s .t .now) (s .name) (laying sh (s .p) (z .result) (o .result) (s .t .now) k (z .ensures) (o .ensures)) (omega arith)
+    span-found sh (s .p) (z .result) (o .result) (s .t .now) (s .symbol) (laying sh (s .p) (z .result) (o .result) (s .t .now) k (z .ensures) (o .ensures)) (omega arith)
     (sym (r .ensures sh k) ∙ not-false (r .result) (c .before .before .if2 .left))
 
 pub span-of-spec : {M : Type 1} → statement M

@@ -1,8 +1,7 @@
 -- `knowledge::apart` meets its contract.
 use borrow.Author.Tests.{eqb-true}
 use lib.Bits.{bitOr}
-use Rattle.knowledge.specs.Knows.{Means}
-use Rattle.knowledge.proofs.Laws.{words-apart}
+use Rattle.knowledge.proofs.Keeping.{words-apart}
 use borrow.Author.Needs.{needs}
 use Rattle.knowledge.proofs.apart.Statement.{statement}
 use Rattle.knowledge.proofs.apart.Tie as tie

@@ -1,6 +1,6 @@
 -- `knowledge::join` meets its contract: the labels have the codes of the terms.
 use mathlib.Core.Path.{sym, _∙_}
-use Rattle.knowledge.proofs.Laws.{step}
+use Rattle.knowledge.proofs.Keeping.{step}
 use borrow.Author.Needs.{needs}
 use Rattle.knowledge.proofs.join.Statement.{statement}
 use Rattle.knowledge.proofs.join.Tie as tie

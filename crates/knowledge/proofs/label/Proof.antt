@@ -1,5 +1,4 @@
 -- `knowledge::label` meets its contract.
-use Rattle.knowledge.specs.Knows.{Means}
 use mathlib.Core.Path.{ap, _∙_}
 use borrow.Author.Needs.{needs}
 use Rattle.knowledge.proofs.label.Statement.{statement}

@@ -1,5 +1,5 @@
 -- `knowledge::mark` meets its contract.
-use Rattle.knowledge.proofs.Laws.{step-from, differ-sym}
+use Rattle.knowledge.proofs.Keeping.{step-from, differ-sym}
 use borrow.Author.Needs.{needs}
 use Rattle.knowledge.proofs.mark.Statement.{statement}
 use Rattle.knowledge.proofs.mark.Tie as tie
@@ -10,16 +10,16 @@ marked-requires c κs = search needs
 returns : tie.Need-returns
 returns c = search needs
 
-put-requires : tie.Need-put-requires
-put-requires c κs = search needs
+mark-one-requires : tie.Need-mark-one-requires
+mark-one-requires c κs = search needs
 
-put-requires-2 : tie.Need-put-requires-2
-put-requires-2 c κs = search needs
+mark-one-requires-2 : tie.Need-mark-one-requires-2
+mark-one-requires-2 c κs = search needs
 
 returns-2 : tie.Need-returns-2
 returns-2 c =
     let p = c .before .before .before .before .before .before .before .args in
-    step-from (c .before .before .put .ensures) (λ a d m. differ-sym (p .a) (p .b) a d) (c .put2 .ensures)
+    step-from (c .before .before .mark-one .ensures) (λ a d m. differ-sym (p .a) (p .b) a d) (c .mark-one2 .ensures)
 
 pub mark-spec : {M : Type 1} → statement M
-mark-spec = tie.close (tie.spec marked-requires returns put-requires put-requires-2 returns-2)
+mark-spec = tie.close (tie.spec marked-requires returns mark-one-requires mark-one-requires-2 returns-2)

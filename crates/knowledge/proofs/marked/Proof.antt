@@ -1,7 +1,7 @@
 -- `knowledge::marked` meets its contract.
 use mathlib.Core.Bool.{false≢true}
 use borrow.Author.Tests.{eqb-true}
-use Rattle.knowledge.proofs.Laws.{marks-read}
+use Rattle.knowledge.proofs.Keeping.{marks-read}
 use borrow.Author.Needs.{needs}
 use native.Mathlib.Omega.{arith}
 use Rattle.knowledge.proofs.marked.Statement.{statement}

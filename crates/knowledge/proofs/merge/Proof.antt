@@ -1,5 +1,5 @@
 -- `knowledge::merge` meets its contract: each of the three arrays in turn.
-use Rattle.knowledge.proofs.Laws.{step, chain, in-labels, in-words, in-marks}
+use Rattle.knowledge.proofs.Keeping.{step, chain, in-labels, in-words, in-marks}
 use borrow.Author.Needs.{needs}
 use Rattle.knowledge.proofs.merge.Statement.{statement}
 use Rattle.knowledge.proofs.merge.Tie as tie

@@ -1,7 +1,7 @@
 -- `knowledge::relabel` meets its contract: a turn stores a label of the same code.
 use Prim.Native.Nat.{_≤_, _-_}
 use Rattle.knowledge.specs.Knows.{Kept, Labels, Same}
-use Rattle.knowledge.proofs.Laws.{stay, step-from, labels-set}
+use Rattle.knowledge.proofs.Keeping.{stay, step-from, labels-set}
 use mathlib.Core.Path.{_∙_}
 use borrow.Author.Needs.{needs}
 use native.Mathlib.Omega.{arith}
@@ -17,11 +17,11 @@ abbrev μ-loop : tie.MeasureT-loop
 loop-holds : tie.Need-loop-holds Inv-loop μ-loop
 loop-holds c = (omega arith, stay)
 
-element-copy-out-joined : tie.Need-element-copy-out-joined Inv-loop μ-loop
-element-copy-out-joined c = search needs
+element-copy-out-new-label : tie.Need-element-copy-out-new-label Inv-loop μ-loop
+element-copy-out-new-label c = search needs
 
-joined-requires : tie.Need-joined-requires Inv-loop μ-loop
-joined-requires c κs = search needs
+new-label-requires : tie.Need-new-label-requires Inv-loop μ-loop
+new-label-requires c κs = search needs
 
 element-write-labels : tie.Need-element-write-labels Inv-loop μ-loop
 element-write-labels c = search needs
@@ -35,7 +35,7 @@ loop-less c = search needs
 loop-again : tie.Need-loop-again Inv-loop μ-loop
 loop-again c =
     let h = c .before .before .before .loop in
-    (omega arith, step-from (h .inv .1) (λ a e l. c .joined .ensures .means a e ∙ l (h .k) (c .before .before .loop-test .taken)) (labels-set (h .labels) (h .k) (c .joined .result)))
+    (omega arith, step-from (h .inv .1) (λ a e l. c .new-label .ensures .means a e ∙ l (h .k) (c .before .before .loop-test .taken)) (labels-set (h .labels) (h .k) (c .new-label .result)))
 
 returns : tie.Need-returns Inv-loop μ-loop
 returns c = c .before .loop .inv .1
@@ -47,8 +47,8 @@ relabel-spec =
     Inv-loop
     μ-loop
     loop-holds
-    element-copy-out-joined
-    joined-requires
+    element-copy-out-new-label
+    new-label-requires
     element-write-labels
     add-k
     loop-less

@@ -1,9 +1,7 @@
 -- `knowledge::single` meets its contract: the test after the guess says which word it is.
-use Prim.Native.Nat.{ℕ, _-_, _^_}
+use Prim.Native.Nat.{_-_}
 use lib.Count.{trailingZeros, trailing-le}
-use Rattle.knowledge.specs.Knows.{Single, Bit}
 use Rattle.knowledge.proofs.Bits.{shl-one, bit-only}
-use mathlib.Core.Path.{_≡_}
 use borrow.Author.Needs.{needs}
 use native.Mathlib.Omega.{arith}
 use Rattle.knowledge.proofs.single.Statement.{statement}

@@ -1,5 +1,5 @@
 -- `knowledge::strike` meets its contract.
-use Rattle.knowledge.proofs.Laws.{words-set}
+use Rattle.knowledge.proofs.Keeping.{words-set}
 use borrow.Author.Needs.{needs}
 use Rattle.knowledge.proofs.strike.Statement.{statement}
 use Rattle.knowledge.proofs.strike.Tie as tie

@@ -2,7 +2,7 @@
 use Prim.Native.Nat.{_-_, _<_}
 use lib.Bits.{and-le-r}
 use Rattle.knowledge.specs.Knows.{Kept, Marks, Same}
-use Rattle.knowledge.proofs.Laws.{stay, chain}
+use Rattle.knowledge.proofs.Keeping.{stay, chain}
 use borrow.Author.Needs.{needs}
 use native.Mathlib.Omega.{arith}
 use Rattle.knowledge.proofs.unite_half.Statement.{statement}

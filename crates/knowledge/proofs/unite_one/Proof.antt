@@ -1,6 +1,6 @@
 -- `knowledge::unite_one` meets its contract.
 use mathlib.Core.Path.{sym, _∙_}
-use Rattle.knowledge.proofs.Laws.{step}
+use Rattle.knowledge.proofs.Keeping.{step}
 use borrow.Author.Needs.{needs}
 use Rattle.knowledge.proofs.unite_one.Statement.{statement}
 use Rattle.knowledge.proofs.unite_one.Tie as tie

@@ -1,5 +1,4 @@
 -- `knowledge::word` meets its contract.
-use Rattle.knowledge.specs.Knows.{Means}
 use Rattle.knowledge.proofs.Bits.{bit-none}
 use borrow.Author.Needs.{needs}
 use Rattle.knowledge.proofs.word.Statement.{statement}

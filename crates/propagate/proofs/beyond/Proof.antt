@@ -1,10 +1,7 @@
 -- `propagate::beyond` meets its contract.
-use Prim.Native.Nat.{ℕ, _<_, _≤_, _^_, _-_, _*_, _%_}
-use mathlib.Core.Path.{_≡_, sym}
-use Rattle.knowledge.specs.Knows.{Bit}
+use Prim.Native.Nat.{_≤_, _-_}
 use lib.Pow.{pow-mono, pow-pos}
 use Rattle.knowledge.proofs.Bits.{bit-none, bit-from, shl-one}
-use Rattle.propagate.specs.Start.{Beyond}
 use borrow.Author.Needs.{needs}
 use native.Mathlib.Omega.{arith}
 use Rattle.propagate.proofs.beyond.Statement.{statement}

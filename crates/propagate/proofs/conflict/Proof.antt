@@ -1,8 +1,6 @@
 -- `propagate::conflict` meets its contract: a code of the group would be struck out, or differ from itself.
 use Prim.Native.Nat.{_-_, _≤_}
 use mathlib.Core.Path.{refl}
-use borrow.Author.Tests.{eqb-true}
-use Rattle.knowledge.specs.Knows.{Means}
 use Rattle.knowledge.proofs.Bits.{bit-full}
 use borrow.Author.Needs.{needs}
 use native.Mathlib.Omega.{arith}

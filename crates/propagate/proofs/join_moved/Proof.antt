@@ -1,5 +1,5 @@
 -- `propagate::join_moved` meets its contract.
-use Rattle.knowledge.proofs.Laws.{stay, step}
+use Rattle.knowledge.proofs.Keeping.{stay, step}
 use borrow.Author.Needs.{needs}
 use Rattle.propagate.proofs.join_moved.Statement.{statement}
 use Rattle.propagate.proofs.join_moved.Tie as tie

@@ -1,8 +1,8 @@
 -- `propagate::join_same` meets its contract.
 use Prim.Native.Nat.{_-_, _≤_}
 use Rattle.knowledge.specs.Knows.{Kept, Knows}
-use Rattle.knowledge.proofs.Laws.{stay, chain}
-use Rattle.propagate.specs.Start.{SameHold}
+use Rattle.knowledge.proofs.Keeping.{stay, chain}
+use Rattle.propagate.specs.Parts.{SameHold}
 use borrow.Author.Needs.{needs}
 use native.Mathlib.Omega.{arith}
 use Rattle.propagate.proofs.join_same.Statement.{statement}

@@ -1,6 +1,6 @@
 -- `propagate::join_sides` meets its contract.
 use mathlib.Core.Path.{ap, sym, _∙_}
-use Rattle.knowledge.proofs.Laws.{step}
+use Rattle.knowledge.proofs.Keeping.{step}
 use borrow.Author.Needs.{needs}
 use native.Mathlib.Omega.{arith}
 use Rattle.propagate.proofs.join_sides.Statement.{statement}

@@ -1,8 +1,8 @@
 -- `propagate::mark_differ` meets its contract.
 use Prim.Native.Nat.{_-_, _≤_}
 use Rattle.knowledge.specs.Knows.{Kept, Marks}
-use Rattle.knowledge.proofs.Laws.{stay, chain}
-use Rattle.propagate.specs.Start.{DifferHold}
+use Rattle.knowledge.proofs.Keeping.{stay, chain}
+use Rattle.propagate.specs.Parts.{DifferHold}
 use borrow.Author.Needs.{needs}
 use native.Mathlib.Omega.{arith}
 use Rattle.propagate.proofs.mark_differ.Statement.{statement}

@@ -1,13 +1,11 @@
 -- `propagate::propagate` meets its contract: what is known after the rules is true of every consistent extension, so a conflict leaves none.
 use Prim.Native.Nat.{ℕ}
 use borrow.Author.Tests.{ltb-true}
-use Rattle.logic.specs.Structure.{at}
+use Rattle.prelude.specs.Lists.{at}
 use Rattle.logic.specs.Problem.{Consistent, Extends}
 use Rattle.sheet.specs.Packed.{view}
 use Rattle.knowledge.specs.Knows.{Knows}
-use Rattle.propagate.specs.Knowledge.{Propagated}
-use Rattle.propagate.specs.Start.{Shown, Grouped}
-use Rattle.propagate.proofs.Laws.{known}
+use Rattle.propagate.proofs.Starting.{known}
 use borrow.Author.Needs.{needs}
 use Rattle.propagate.proofs.propagate.Statement.{statement}
 use Rattle.propagate.proofs.propagate.Tie as tie

@@ -1,6 +1,5 @@
 -- `propagate::round` meets its contract: one rule after the other.
-use Rattle.knowledge.proofs.Laws.{step, chain, in-words, in-marks}
-use Rattle.rules.specs.Reasons.{Told, Settled}
+use Rattle.knowledge.proofs.Keeping.{step, chain, in-words, in-marks}
 use borrow.Author.Needs.{needs}
 use Rattle.propagate.proofs.round.Statement.{statement}
 use Rattle.propagate.proofs.round.Tie as tie

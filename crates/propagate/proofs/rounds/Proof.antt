@@ -2,7 +2,7 @@
 use Prim.Native.Nat.{_-_, _≤_}
 use borrow.Author.Tests.{ltb-true}
 use Rattle.knowledge.specs.Knows.{Kept, Knows}
-use Rattle.knowledge.proofs.Laws.{stay, chain}
+use Rattle.knowledge.proofs.Keeping.{stay, chain}
 use Rattle.rules.specs.Reasons.{Lawful}
 use native.Mathlib.Omega.{arith}
 use borrow.Author.Needs.{needs}

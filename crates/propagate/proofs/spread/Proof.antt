@@ -1,8 +1,8 @@
 -- `propagate::spread` meets its contract.
 use Prim.Native.Nat.{_-_, _≤_}
-use Rattle.knowledge.specs.Knows.{Means, Words, Bit}
-use Rattle.propagate.specs.Start.{Grouped}
-use Rattle.propagate.proofs.Laws.{words-none, words-put}
+use Rattle.knowledge.specs.Knows.{Means, Words}
+use Rattle.propagate.specs.Parts.{Grouped}
+use Rattle.propagate.proofs.Starting.{words-none, words-put}
 use borrow.Author.Needs.{needs}
 use native.Mathlib.Omega.{arith}
 use Rattle.propagate.proofs.spread.Statement.{statement}

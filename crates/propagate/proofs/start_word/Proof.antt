@@ -1,6 +1,6 @@
 -- `propagate::start_word` meets its contract.
-use Rattle.knowledge.proofs.Laws.{step, chain}
-use Rattle.propagate.proofs.Laws.{group-free}
+use Rattle.knowledge.proofs.Keeping.{step, chain}
+use Rattle.propagate.proofs.Starting.{group-free}
 use native.Mathlib.Omega.{arith}
 use borrow.Author.Needs.{needs}
 use Rattle.propagate.proofs.start_word.Statement.{statement}

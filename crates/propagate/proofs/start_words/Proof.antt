@@ -1,8 +1,8 @@
 -- `propagate::start_words` meets its contract.
 use Prim.Native.Nat.{_-_, _≤_}
 use Rattle.knowledge.specs.Knows.{Kept, Words}
-use Rattle.knowledge.proofs.Laws.{stay, chain}
-use Rattle.propagate.specs.Start.{Fixed}
+use Rattle.knowledge.proofs.Keeping.{stay, chain}
+use Rattle.propagate.specs.Parts.{Fixed}
 use borrow.Author.Needs.{needs}
 use native.Mathlib.Omega.{arith}
 use Rattle.propagate.proofs.start_words.Statement.{statement}

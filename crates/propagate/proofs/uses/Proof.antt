@@ -22,8 +22,8 @@ wide-requires c κs = search needs
 label-requires : tie.Need-label-requires Inv-loop μ-loop
 label-requires c κs = search needs
 
-count-requires : tie.Need-count-requires Inv-loop μ-loop
-count-requires c κs = search needs
+count-one-requires : tie.Need-count-one-requires Inv-loop μ-loop
+count-one-requires c κs = search needs
 
 element-copy-out-wide-2 : tie.Need-element-copy-out-wide-2 Inv-loop μ-loop
 element-copy-out-wide-2 c = search needs
@@ -34,8 +34,8 @@ wide-requires-2 c κs = search needs
 label-requires-2 : tie.Need-label-requires-2 Inv-loop μ-loop
 label-requires-2 c κs = search needs
 
-count-requires-2 : tie.Need-count-requires-2 Inv-loop μ-loop
-count-requires-2 c κs = search needs
+count-one-requires-2 : tie.Need-count-one-requires-2 Inv-loop μ-loop
+count-one-requires-2 c κs = search needs
 
 add-i : tie.Need-add-i Inv-loop μ-loop
 add-i c = search needs
@@ -59,11 +59,11 @@ uses-spec =
     element-copy-out-wide
     wide-requires
     label-requires
-    count-requires
+    count-one-requires
     element-copy-out-wide-2
     wide-requires-2
     label-requires-2
-    count-requires-2
+    count-one-requires-2
     add-i
     loop-less
     loop-again

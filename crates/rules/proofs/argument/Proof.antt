@@ -1,6 +1,5 @@
 -- `rules::argument` meets its contract.
 use mathlib.Core.Path.{ap, _∙_}
-use Rattle.knowledge.specs.Knows.{Means}
 use borrow.Author.Needs.{needs}
 use Rattle.rules.proofs.argument.Statement.{statement}
 use Rattle.rules.proofs.argument.Tie as tie

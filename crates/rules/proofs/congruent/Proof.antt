@@ -1,6 +1,6 @@
 -- `rules::congruent` meets its contract: equal labels are equal codes of the arguments.
 use mathlib.Core.Path.{ap, _∙_, sym}
-use Rattle.knowledge.proofs.Laws.{step}
+use Rattle.knowledge.proofs.Keeping.{step}
 use borrow.Author.Needs.{needs}
 use Rattle.rules.proofs.congruent.Statement.{statement}
 use Rattle.rules.proofs.congruent.Tie as tie

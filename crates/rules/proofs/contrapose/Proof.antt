@@ -1,7 +1,7 @@
 -- `rules::contrapose` meets its contract: were the pair left equal, the results would be.
 use mathlib.Core.Path.{ap, _∙_, sym}
 use borrow.Author.Tests.{not-false}
-use Rattle.knowledge.proofs.Laws.{step}
+use Rattle.knowledge.proofs.Keeping.{step}
 use borrow.Author.Needs.{needs}
 use Rattle.rules.proofs.contrapose.Statement.{statement}
 use Rattle.rules.proofs.contrapose.Tie as tie

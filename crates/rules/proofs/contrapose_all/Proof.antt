@@ -1,15 +1,15 @@
 -- `rules::contrapose_all` meets its contract.
 use Prim.Native.Nat.{_≤_}
 use Rattle.knowledge.specs.Knows.{Kept, Marks}
-use Rattle.knowledge.proofs.Laws.{stay, chain}
-use Rattle.rules.specs.Reasons.{Settled}
+use Rattle.knowledge.proofs.Keeping.{stay, chain}
+use Rattle.rules.specs.Reasons.{LawfulGrouped}
 use borrow.Author.Needs.{needs}
 use native.Mathlib.Omega.{arith}
 use Rattle.rules.proofs.contrapose_all.Statement.{statement}
 use Rattle.rules.proofs.contrapose_all.Tie as tie
 
 abbrev Inv-loop : tie.InvT-loop
-Inv-loop marks₀ labels words symbol arg0 arg1 earlier n news₀ i₀ marks news i = (n ≤ 128) × (i ≤ n) × Kept (Settled n symbol arg0 arg1 labels words) (Marks marks₀) (Marks marks)
+Inv-loop marks₀ labels words symbol arg0 arg1 earlier n news₀ i₀ marks news i = (n ≤ 128) × (i ≤ n) × Kept (LawfulGrouped n symbol arg0 arg1 labels words) (Marks marks₀) (Marks marks)
 
 abbrev μ-loop : tie.MeasureT-loop
 μ-loop marks₀ labels words symbol arg0 arg1 earlier n news₀ i₀ marks news i = i

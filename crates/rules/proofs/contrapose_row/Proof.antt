@@ -2,15 +2,15 @@
 use Prim.Native.Nat.{_-_, _≤_, _<_}
 use borrow.Author.Tests.{ltb-true}
 use Rattle.knowledge.specs.Knows.{Kept, Marks}
-use Rattle.knowledge.proofs.Laws.{stay, chain}
-use Rattle.rules.specs.Reasons.{Settled}
+use Rattle.knowledge.proofs.Keeping.{stay, chain}
+use Rattle.rules.specs.Reasons.{LawfulGrouped}
 use borrow.Author.Needs.{needs}
 use native.Mathlib.Omega.{arith}
 use Rattle.rules.proofs.contrapose_row.Statement.{statement}
 use Rattle.rules.proofs.contrapose_row.Tie as tie
 
 abbrev Inv-loop : tie.InvT-loop
-Inv-loop marks₀ labels words symbol arg0 arg1 earlier n i news₀ j₀ tried₀ marks news j tried = (n ≤ 128) × (i < n) × (tried ≤ 128) × Kept (Settled n symbol arg0 arg1 labels words) (Marks marks₀) (Marks marks)
+Inv-loop marks₀ labels words symbol arg0 arg1 earlier n i news₀ j₀ tried₀ marks news j tried = (n ≤ 128) × (i < n) × (tried ≤ 128) × Kept (LawfulGrouped n symbol arg0 arg1 labels words) (Marks marks₀) (Marks marks)
 
 abbrev μ-loop : tie.MeasureT-loop
 μ-loop marks₀ labels words symbol arg0 arg1 earlier n i news₀ j₀ tried₀ marks news j tried = 128 - tried

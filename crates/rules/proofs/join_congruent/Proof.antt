@@ -1,8 +1,9 @@
 -- `rules::join_congruent` meets its contract; the table of keys only chooses which pairs to try.
 use Prim.Native.Nat.{_-_, _≤_}
 use Rattle.knowledge.specs.Knows.{Kept, Knows}
-use Rattle.knowledge.proofs.Laws.{stay, chain}
-use Rattle.rules.specs.Reasons.{Congruent}
+use Rattle.knowledge.proofs.Keeping.{stay, chain}
+use Rattle.prelude.specs.Lists.{at}
+use Rattle.logic.specs.Problem.{Congruent}
 use borrow.Author.Needs.{needs}
 use native.Mathlib.Omega.{arith}
 use Rattle.rules.proofs.join_congruent.Statement.{statement}
@@ -10,7 +11,7 @@ use Rattle.rules.proofs.join_congruent.Tie as tie
 
 abbrev Inv-loop : tie.InvT-loop
 Inv-loop labels₀ words₀ marks₀ fresh₀ symbol arg0 arg1 n table₀ keys₀ news₀ i₀ labels words marks fresh table keys news i =
-    (n ≤ 128) × (i ≤ n) × Kept (Congruent n symbol arg0 arg1) (Knows labels₀ words₀ marks₀) (Knows labels words marks)
+    (n ≤ 128) × (i ≤ n) × Kept (Congruent n (at symbol) (at arg0) (at arg1)) (Knows labels₀ words₀ marks₀) (Knows labels words marks)
 
 abbrev μ-loop : tie.MeasureT-loop
 μ-loop labels₀ words₀ marks₀ fresh₀ symbol arg0 arg1 n table₀ keys₀ news₀ i₀ labels words marks fresh table keys news i = n - i

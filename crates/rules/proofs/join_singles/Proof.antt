@@ -1,14 +1,14 @@
 -- `rules::join_singles` meets its contract.
 use Prim.Native.Nat.{_-_, _≤_}
-use Rattle.knowledge.specs.Knows.{Kept, Knows, Small}
-use Rattle.knowledge.proofs.Laws.{stay, chain}
+use Rattle.knowledge.specs.Knows.{Kept, Knows, SmallCodes}
+use Rattle.knowledge.proofs.Keeping.{stay, chain}
 use borrow.Author.Needs.{needs}
 use native.Mathlib.Omega.{arith}
 use Rattle.rules.proofs.join_singles.Statement.{statement}
 use Rattle.rules.proofs.join_singles.Tie as tie
 
 abbrev Inv-loop : tie.InvT-loop
-Inv-loop labels₀ words₀ marks₀ sort n first₀ news₀ i₀ labels words marks first news i = (n ≤ 128) × (i ≤ n) × Kept Small (Knows labels₀ words₀ marks₀) (Knows labels words marks)
+Inv-loop labels₀ words₀ marks₀ sort n first₀ news₀ i₀ labels words marks first news i = (n ≤ 128) × (i ≤ n) × Kept SmallCodes (Knows labels₀ words₀ marks₀) (Knows labels words marks)
 
 abbrev μ-loop : tie.MeasureT-loop
 μ-loop labels₀ words₀ marks₀ sort n first₀ news₀ i₀ labels words marks first news i = n - i

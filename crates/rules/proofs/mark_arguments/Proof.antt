@@ -1,5 +1,5 @@
 -- `rules::mark_arguments` meets its contract.
-use Rattle.knowledge.proofs.Laws.{chain}
+use Rattle.knowledge.proofs.Keeping.{chain}
 use borrow.Author.Needs.{needs}
 use Rattle.rules.proofs.mark_arguments.Statement.{statement}
 use Rattle.rules.proofs.mark_arguments.Tie as tie

@@ -1,6 +1,6 @@
 -- `rules::same_code` meets its contract: both terms have the one code that is left to them.
 use mathlib.Core.Path.{_∙_, sym}
-use Rattle.knowledge.proofs.Laws.{step}
+use Rattle.knowledge.proofs.Keeping.{step}
 use borrow.Author.Needs.{needs}
 use native.Mathlib.Omega.{arith}
 use Rattle.rules.proofs.same_code.Statement.{statement}

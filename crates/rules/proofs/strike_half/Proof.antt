@@ -2,15 +2,15 @@
 use Prim.Native.Nat.{_-_, _<_}
 use lib.Bits.{and-le-r}
 use Rattle.knowledge.specs.Knows.{Kept, Words}
-use Rattle.knowledge.proofs.Laws.{stay, chain}
-use Rattle.rules.specs.Reasons.{Given}
+use Rattle.knowledge.proofs.Keeping.{stay, chain}
+use Rattle.rules.specs.Parts.{CodeMarks}
 use borrow.Author.Needs.{needs}
 use native.Mathlib.Omega.{arith}
 use Rattle.rules.proofs.strike_half.Statement.{statement}
 use Rattle.rules.proofs.strike_half.Tie as tie
 
 abbrev Inv-loop : tie.InvT-loop
-Inv-loop words₀ marks g v half rest₀ news₀ words rest news = (v < 16) × (g < 128) × (half < 2) × Kept (Given marks g v) (Words words₀) (Words words)
+Inv-loop words₀ marks g v half rest₀ news₀ words rest news = (v < 16) × (g < 128) × (half < 2) × Kept (CodeMarks marks g v) (Words words₀) (Words words)
 
 abbrev μ-loop : tie.MeasureT-loop
 μ-loop words₀ marks g v half rest₀ news₀ words rest news = rest

@@ -1,15 +1,15 @@
 -- `rules::strike_marked` meets its contract.
 use Prim.Native.Nat.{_-_, _≤_}
 use Rattle.knowledge.specs.Knows.{Kept, Words}
-use Rattle.knowledge.proofs.Laws.{stay, chain}
-use Rattle.rules.specs.Reasons.{Told}
+use Rattle.knowledge.proofs.Keeping.{stay, chain}
+use Rattle.rules.specs.Reasons.{SmallMarks}
 use borrow.Author.Needs.{needs}
 use native.Mathlib.Omega.{arith}
 use Rattle.rules.proofs.strike_marked.Statement.{statement}
 use Rattle.rules.proofs.strike_marked.Tie as tie
 
 abbrev Inv-loop : tie.InvT-loop
-Inv-loop words₀ labels marks n news₀ i₀ words news i = (n ≤ 128) × (i ≤ n) × Kept (Told marks) (Words words₀) (Words words)
+Inv-loop words₀ labels marks n news₀ i₀ words news i = (n ≤ 128) × (i ≤ n) × Kept (SmallMarks marks) (Words words₀) (Words words)
 
 abbrev μ-loop : tie.MeasureT-loop
 μ-loop words₀ labels marks n news₀ i₀ words news i = n - i

@@ -1,6 +1,6 @@
 -- `rules::strike_one` meets its contract: with the code v the term would not differ from g.
 use mathlib.Core.Path.{_∙_, sym}
-use Rattle.knowledge.proofs.Laws.{step}
+use Rattle.knowledge.proofs.Keeping.{step}
 use Rattle.knowledge.proofs.Bits.{bit-pow, shl-one}
 use borrow.Author.Needs.{needs}
 use native.Mathlib.Omega.{arith}

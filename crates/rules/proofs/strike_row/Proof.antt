@@ -1,6 +1,5 @@
 -- `rules::strike_row` meets its contract: the group's code is the one that is left to it.
-use Rattle.knowledge.proofs.Laws.{step, chain}
-use Rattle.rules.specs.Reasons.{Given}
+use Rattle.knowledge.proofs.Keeping.{step, chain}
 use borrow.Author.Needs.{needs}
 use Rattle.rules.proofs.strike_row.Statement.{statement}
 use Rattle.rules.proofs.strike_row.Tie as tie

@@ -1,7 +1,7 @@
 -- `search::search` meets its contract.
 use native.Mathlib.Omega.{arith}
 use borrow.Author.Tests.{not-true, not-false}
-use Rattle.search.proofs.Laws.{answered-none, answered-least}
+use Rattle.search.proofs.LeastAnswer.{answered-none, answered-least}
 use borrow.Author.Needs.{needs}
 use Rattle.search.proofs.search.Statement.{statement}
 use Rattle.search.proofs.search.Tie as tie

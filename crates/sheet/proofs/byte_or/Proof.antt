@@ -1,4 +1,4 @@
--- A byte of a payload, or 255 past its end.
+-- A byte of a payload, or MISSING past its end.
 use native.Mathlib.Omega.{arith}
 use Rattle.sheet.proofs.Steps.{byte-inside, byte-past}
 use borrow.Author.Needs.{needs}

@@ -8,7 +8,7 @@ use lib.ListN.{length, take, drop}
 use borrow.Author.Needs.{needs}
 use Rattle.sheet.specs.Layout.{kindOf, misplaced, wrongLength, cause, add}
 use Rattle.sheet.specs.Packed.{packed}
-use Rattle.sheet.specs.SoFar.{Known}
+use Rattle.sheet.specs.Parts.{PartRead}
 use Rattle.sheet.proofs.Steps.{length-part}
 use Rattle.sheet.proofs.Records.{cause-3, cause-4, kind-known, one-to-three, took-refused, Tested, tested-sized, tested-cause}
 use Rattle.sheet.proofs.take_record.Statement.{statement}
@@ -20,10 +20,10 @@ payload c = take (c .args .len) (drop (c .args .start) (c .args .s .now))
 payload-length : (c : tie.Start) → length (payload c) ≡ c .args .len
 payload-length c = length-part (c .args .s .now) (c .args .start) (c .args .len) (c .pre .1)
 
-placed : (c : tie.Else1) (k : Known (c .before .before .before .args .p)) → misplaced (k .sheet) (kindOf (c .before .before .before .args .kind)) ≡ false
+placed : (c : tie.Else1) (k : PartRead (c .before .before .before .args .p)) → misplaced (k .sheet) (kindOf (c .before .before .before .args .kind)) ≡ false
 placed c k = sym (c .before .is-misplaced .ensures (k .sheet) (k .same)) ∙ c .if1 .left
 
-tested : (c : tie.After-payload-of) (k : Known (c .before .before .before .before .before .before .args .p))
+tested : (c : tie.After-payload-of) (k : PartRead (c .before .before .before .before .before .before .args .p))
     → Tested (k .sheet) (c .before .before .before .before .before .before .args .kind) (payload (c .before .before .before .before .before .before)) (c .payload-of .result)
 tested c k =
     let start = c .before .before .before .before .before .before in
@@ -74,7 +74,7 @@ fault-requires : tie.Need-fault-requires
 fault-requires c κs = (c .before .before .before .before .before .before .pre .0, c .payload-of .ensures .1)
 
 -- the causes 5 to 8
-later-cause : (c : tie.After-fault) (k : Known (c .before .before .before .before .before .before .before .args .p))
+later-cause : (c : tie.After-fault) (k : PartRead (c .before .before .before .before .before .before .before .args .p))
     → c .fault .result ≡ cause (k .sheet) (c .before .before .before .before .before .before .before .args .kind) (payload (c .before .before .before .before .before .before .before))
 later-cause c k =
     let start = c .before .before .before .before .before .before .before in

@@ -1,9 +1,9 @@
 -- `solve::branch` meets its contract.
-use Prim.Native.Nat.{ℕ, _≤_, _<_}
-use mathlib.Core.Path.{_≡_, refl, ap, _∙_, subst}
+use Prim.Native.Nat.{_≤_}
+use mathlib.Core.Path.{refl, ap, _∙_}
 use native.Mathlib.Omega.{arith}
-use Rattle.logic.specs.Structure.{at}
-use Rattle.solve.proofs.Laws.{branch-planned}
+use Rattle.prelude.specs.Lists.{at}
+use Rattle.solve.proofs.Branching.{branch-planned}
 use borrow.Author.Needs.{needs}
 use Rattle.solve.proofs.branch.Statement.{statement}
 use Rattle.solve.proofs.branch.Tie as tie
@@ -22,8 +22,8 @@ array-read-wide c =
 wide-requires-2 : tie.Need-wide-requires-2
 wide-requires-2 c κs = search needs
 
-used-requires : tie.Need-used-requires
-used-requires c κs = search needs
+codes-in-use-requires : tie.Need-codes-in-use-requires
+codes-in-use-requires c κs = search needs
 
 fresh-requires : tie.Need-fresh-requires
 fresh-requires c κs =
@@ -32,18 +32,18 @@ fresh-requires c κs =
     let l : at (s .args .t2) (c .before .before .wide .result) ≤ 16 = rw e (s .pre .1 .0 _ (s .pre .0 .sorted .sort (s .args .term) (s .pre .1 .1 .1 .0))) in
     omega (arith, c .before .wide2 .ensures .0)
 
-mul-t22 : tie.Need-mul-t22
-mul-t22 c = search needs
+mul-word : tie.Need-mul-word
+mul-word c = search needs
 
-array-read-t25 : tie.Need-array-read-t25
-array-read-t25 c = search needs
+array-read-word : tie.Need-array-read-word
+array-read-word c = search needs
 
 returns : tie.Need-returns
 returns c =
     let s = c .before .before .before .before .before in (
       branch-planned _ _ _ _ _ _ (s .args .t4) _ (s .pre .0 .sorted) (s .pre .1 .0) (s .pre .1 .1 .0) (s .pre .1 .1 .1 .0) (s .pre .1 .1 .1 .1)
           (c .before .before .wide2 .ensures .0 ∙ ap (at (s .args .t2)) (c .before .before .before .wide .ensures .0))
-          (c .fresh .ensures) (c .before .used .ensures),
+          (c .fresh .ensures) (c .before .codes-in-use .ensures),
       (refl, refl, refl),
     )
 
@@ -55,8 +55,8 @@ branch-spec =
     wide-requires
     array-read-wide
     wide-requires-2
-    used-requires
+    codes-in-use-requires
     fresh-requires
-    mul-t22
-    array-read-t25
+    mul-word
+    array-read-word
     returns)

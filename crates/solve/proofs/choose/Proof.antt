@@ -5,10 +5,10 @@ use Rattle.solve.proofs.choose.Statement.{statement}
 use Rattle.solve.proofs.choose.Tie as tie
 
 abbrev Inv-loop : tie.InvT-loop
-Inv-loop labels words degree p decided weights used best₀ high₀ i₀ best high i = i ≤ p .terms
+Inv-loop labels words degree weights p decided used best₀ high₀ i₀ best high i = i ≤ p .terms
 
 abbrev μ-loop : tie.MeasureT-loop
-μ-loop labels words degree p decided weights used best₀ high₀ i₀ best high i = p .terms - i
+μ-loop labels words degree weights p decided used best₀ high₀ i₀ best high i = p .terms - i
 
 used-words-requires : tie.Need-used-words-requires Inv-loop μ-loop
 used-words-requires c κs = search needs
@@ -46,8 +46,8 @@ element-copy-out-score-2 c = search needs
 mul-score-3 : tie.Need-mul-score-3 Inv-loop μ-loop
 mul-score-3 c = search needs
 
-array-read-score : tie.Need-array-read-score Inv-loop μ-loop
-array-read-score c = search needs
+element-copy-out-score-3 : tie.Need-element-copy-out-score-3 Inv-loop μ-loop
+element-copy-out-score-3 c = search needs
 
 score-requires : tie.Need-score-requires Inv-loop μ-loop
 score-requires c κs = search needs
@@ -82,7 +82,7 @@ choose-spec =
     mul-score-2
     element-copy-out-score-2
     mul-score-3
-    array-read-score
+    element-copy-out-score-3
     score-requires
     add-i
     loop-less

@@ -3,7 +3,7 @@ use Prim.Native.Nat.{ℕ, _≤_, _<_, _-_}
 use mathlib.Core.Path.{_≡_}
 use native.Mathlib.Omega.{arith}
 use borrow.Author.Count.{below-more}
-use Rattle.logic.specs.Structure.{at}
+use Rattle.prelude.specs.Lists.{at}
 use borrow.Author.Needs.{needs}
 use Rattle.solve.proofs.fresh.Statement.{statement}
 use Rattle.solve.proofs.fresh.Tie as tie

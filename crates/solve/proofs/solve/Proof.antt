@@ -7,7 +7,7 @@ begin-requires : tie.Need-begin-requires
 begin-requires c κs = search needs
 
 descend-requires : tie.Need-descend-requires
-descend-requires c κs = (c .before .before .before .before .before .pre .0, (c .before .before .before .before .before .pre .1, λ a k x. c .before .before .before .before .begin .ensures _ a k))
+descend-requires c κs = (c .before .before .before .before .before .before .pre .0, (c .before .before .before .before .before .before .pre .1, λ a k x. c .before .before .before .before .before .begin .ensures _ a k))
 
 returns : tie.Need-returns
 returns c = c .descend .ensures

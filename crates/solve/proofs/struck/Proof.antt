@@ -1,5 +1,5 @@
 -- `solve::struck` meets its contract: the test is the definition.
-use Rattle.codes.proofs.Laws.{eqb-decides}
+use Rattle.prelude.proofs.Tests.{eqb-decides}
 use borrow.Author.Needs.{needs}
 use Rattle.solve.proofs.struck.Statement.{statement}
 use Rattle.solve.proofs.struck.Tie as tie

@@ -1,7 +1,7 @@
 -- `solve::worth` meets its contract.
 use native.Mathlib.Omega.{arith}
-use Rattle.codes.proofs.Laws.{answer-no}
-use Rattle.solve.proofs.Laws.{worth-yes, worth-used}
+use Rattle.prelude.proofs.Tests.{answer-no}
+use Rattle.solve.proofs.Branching.{worth-yes, worth-used}
 use borrow.Author.Needs.{needs}
 use Rattle.solve.proofs.worth.Statement.{statement}
 use Rattle.solve.proofs.worth.Tie as tie

@@ -5,9 +5,9 @@ use mathlib.Core.Path.{_≡_, sym}
 use mathlib.Core.Bool.{true}
 use borrow.Author.Tests.{le-ltb, lt-ltb}
 use lib.Dec.{ltb}
-use Rattle.logic.specs.Structure.{at}
-use Rattle.tables.specs.Tests.{every}
-use Rattle.tables.proofs.Tests.{false-every, every-more}
+use Rattle.prelude.specs.Tests.{every}
+use Rattle.prelude.specs.Lists.{at}
+use Rattle.prelude.proofs.Tests.{false-every, every-more}
 use borrow.Author.Needs.{needs}
 use Rattle.tables.proofs.below.Statement.{statement}
 use Rattle.tables.proofs.below.Tie as tie

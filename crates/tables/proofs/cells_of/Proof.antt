@@ -2,9 +2,10 @@
 use native.Mathlib.Omega.{arith}
 use mathlib.Core.Path.{ap, ap₂, _∙_}
 use Prim.Native.Nat.{_*_}
-use Rattle.logic.specs.Structure.{at}
+use Rattle.prelude.specs.Lists.{at}
 use Rattle.tables.specs.Parts.{width}
-use Rattle.tables.proofs.Arrays.{product-small, cells-packed}
+use Rattle.tables.proofs.Widths.{product-small}
+use Rattle.tables.proofs.Packing.{cells-packed}
 use borrow.Author.Needs.{needs}
 use Rattle.tables.proofs.cells_of.Statement.{statement}
 use Rattle.tables.proofs.cells_of.Tie as tie

@@ -3,8 +3,8 @@ use Prim.Native.Nat.{_-_, _≤_}
 use native.Mathlib.Omega.{arith}
 use mathlib.Core.Path.{_≡_, refl, ap, _∙_}
 use lib.ListN.{length, length-set}
-use Rattle.logic.specs.Structure.{at}
-use Rattle.tables.proofs.Arrays.{CodesTo, codes-none, codes-more, codes-all}
+use Rattle.prelude.specs.Lists.{at}
+use Rattle.tables.proofs.TermCodes.{CodesTo, codes-none, codes-more, codes-all}
 use borrow.Author.Needs.{needs}
 use Rattle.tables.proofs.codes_of.Statement.{statement}
 use Rattle.tables.proofs.codes_of.Tie as tie
@@ -50,8 +50,8 @@ array-read-wide-2 c = search needs
 wide-requires-5 : tie.Need-wide-requires-5 Inv-loop μ-loop
 wide-requires-5 c κs = search needs
 
-cell-requires : tie.Need-cell-requires Inv-loop μ-loop
-cell-requires c κs = search needs
+entry-of-requires : tie.Need-entry-of-requires Inv-loop μ-loop
+entry-of-requires c κs = search needs
 
 array-write-codes : tie.Need-array-write-codes Inv-loop μ-loop
 array-write-codes c = search needs
@@ -72,11 +72,11 @@ loop-again c =
       omega arith,
       refl,
       simp length-set (l .inv .2),
-      codes-more (s .t1) (s .sizes) (s .offsets) (s .t .now) (l .i) (l .codes) (f .result) (x .result) (y .result) (c .cell .result) (l .inv .3) (l .inv .2) (omega arith) (omega arith)
+      codes-more (s .t1) (s .sizes) (s .offsets) (s .t .now) (l .i) (l .codes) (f .result) (x .result) (y .result) (c .entry-of .result) (l .inv .3) (l .inv .2) (omega arith) (omega arith)
           (f .ensures .0)
           (x .ensures .0 ∙ ap (at (l .codes)) (c .before .before .before .before .before .wide2 .ensures .0))
           (y .ensures .0 ∙ ap (at (l .codes)) (c .before .before .before .wide3 .ensures .0))
-          (c .cell .ensures),
+          (c .entry-of .ensures),
     )
 
 returns : tie.Need-returns Inv-loop μ-loop
@@ -103,7 +103,7 @@ codes-of-spec =
     wide-requires-4
     array-read-wide-2
     wide-requires-5
-    cell-requires
+    entry-of-requires
     array-write-codes
     add-i
     loop-less

@@ -4,10 +4,10 @@ use native.Mathlib.Omega.{arith}
 use mathlib.Core.Path.{_≡_, refl, ap, sym, _∙_}
 use borrow.Author.Tests.{not-true, not-false}
 use lib.Dec.{ltb}
-use Rattle.logic.specs.Structure.{at}
-use Rattle.tables.specs.Tests.{every}
+use Rattle.prelude.specs.Tests.{every}
+use Rattle.prelude.specs.Lists.{at}
 use Rattle.tables.specs.Parts.{width}
-use Rattle.tables.proofs.Arrays.{EntriesTo, entries-more, entries-broken, entries-all}
+use Rattle.tables.proofs.Entries.{EntriesTo, entries-more, entries-broken, entries-all}
 use borrow.Author.Needs.{needs}
 use Rattle.tables.proofs.entries_right.Statement.{statement}
 use Rattle.tables.proofs.entries_right.Tie as tie

@@ -3,8 +3,8 @@ use Prim.Native.Nat.{_-_, _≤_}
 use native.Mathlib.Omega.{arith}
 use mathlib.Core.Path.{_≡_, refl}
 use lib.ListN.{length, length-set}
-use Rattle.logic.specs.Structure.{at}
-use Rattle.tables.proofs.Arrays.{OffsetsTo, offsets-none, offsets-more, offsets-all}
+use Rattle.prelude.specs.Lists.{at}
+use Rattle.tables.proofs.Offsets.{OffsetsTo, offsets-none, offsets-more, offsets-all}
 use borrow.Author.Needs.{needs}
 use Rattle.tables.proofs.extents.Statement.{statement}
 use Rattle.tables.proofs.extents.Tie as tie

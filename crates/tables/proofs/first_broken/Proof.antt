@@ -5,9 +5,9 @@ use native.Mathlib.Omega.{arith}
 use borrow.Author.Tests.{not-true, not-false}
 use mathlib.Core.Path.{_≡_, refl, ap₂, sym, _∙_}
 use lib.Dec.{eqb}
-use Rattle.logic.specs.Structure.{at}
+use Rattle.prelude.specs.Lists.{at}
 use Rattle.tables.specs.Tests.{agree}
-use Rattle.tables.proofs.Arrays.{HoldTo, hold-broken, hold-more, hold-all}
+use Rattle.tables.proofs.Statements.{HoldTo, hold-broken, hold-more, hold-all}
 use borrow.Author.Needs.{needs}
 use Rattle.tables.proofs.first_broken.Statement.{statement}
 use Rattle.tables.proofs.first_broken.Tie as tie

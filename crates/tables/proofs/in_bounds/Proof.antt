@@ -2,8 +2,8 @@
 use Prim.Native.Nat.{_-_, _*_, _≤_}
 use native.Mathlib.Omega.{arith}
 use mathlib.Core.Path.{_≡_, refl, sym}
-use Rattle.logic.specs.Structure.{at}
-use Rattle.tables.proofs.Arrays.{BoundsTo, bounds-none, bounds-floor, bounds-ceiling, bounds-more, bounds-all}
+use Rattle.prelude.specs.Lists.{at}
+use Rattle.tables.proofs.Bounds.{BoundsTo, bounds-none, bounds-floor, bounds-ceiling, bounds-more, bounds-all}
 use borrow.Author.Needs.{needs}
 use Rattle.tables.proofs.in_bounds.Statement.{statement}
 use Rattle.tables.proofs.in_bounds.Tie as tie

@@ -3,8 +3,8 @@ use Prim.Native.Nat.{ℕ, _-_, _≤_, _<_}
 use native.Mathlib.Omega.{arith}
 use mathlib.Core.Path.{_≡_}
 use lib.ListN.{length, length-set}
-use Rattle.logic.specs.Structure.{at}
-use Rattle.tables.proofs.Arrays.{copied-more}
+use Rattle.prelude.specs.Lists.{at}
+use Rattle.prelude.proofs.Lists.{filled-more}
 use borrow.Author.Needs.{needs}
 use Rattle.tables.proofs.sizes_of.Statement.{statement}
 use Rattle.tables.proofs.sizes_of.Tie as tie
@@ -33,7 +33,7 @@ loop-less c = search needs
 loop-again : tie.Need-loop-again Inv-loop μ-loop
 loop-again c =
     let l = c .before .before .loop in
-    (omega arith, simp length-set (l .inv .1), copied-more (l .sizes) (c .before .before .before .before .args .t .now) (l .s) (c .byte-at .result) (omega arith) (c .byte-at .ensures) (l .inv .2))
+    (omega arith, simp length-set (l .inv .1), filled-more (at (c .before .before .before .before .args .t .now)) (l .sizes) (l .s) (c .byte-at .result) (omega arith) (c .byte-at .ensures) (l .inv .2))
 
 returns : tie.Need-returns Inv-loop μ-loop
 returns c = λ s h. c .before .loop .inv .2 s (omega arith)

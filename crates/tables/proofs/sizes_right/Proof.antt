@@ -5,13 +5,10 @@ use mathlib.Core.Path.{_≡_, sym}
 use mathlib.Core.Bool.{true}
 use lib.ListN.{length}
 use lib.Dec.{leb}
-use Rattle.logic.specs.Structure.{at}
-use Rattle.sheet.specs.Layout.{within}
-use Rattle.sheet.proofs.Bools.{and-no}
-use Rattle.tables.specs.Tests.{every}
+use Rattle.prelude.specs.Tests.{within, every}
+use Rattle.prelude.specs.Lists.{at}
+use Rattle.prelude.proofs.Tests.{and-no, true-within, both-true, and-first, false-every, every-more}
 use borrow.Author.Tests.{lt-leb, le-leb}
-use Rattle.sheet.proofs.Bools.{true-within}
-use Rattle.tables.proofs.Tests.{both-true, and-first, false-every, every-more}
 use borrow.Author.Needs.{needs}
 use Rattle.tables.proofs.sizes_right.Statement.{statement}
 use Rattle.tables.proofs.sizes_right.Tie as tie

@@ -2,8 +2,8 @@
 use native.Mathlib.Omega.{arith}
 use mathlib.Core.Path.{sym, _∙_}
 use borrow.Author.Tests.{le-ltb}
-use Rattle.logic.specs.Structure.{at}
-use Rattle.tables.proofs.Arrays.{width-there}
+use Rattle.prelude.specs.Lists.{at}
+use Rattle.tables.proofs.Widths.{width-there}
 use borrow.Author.Needs.{needs}
 use Rattle.tables.proofs.width_of.Statement.{statement}
 use Rattle.tables.proofs.width_of.Tie as tie

@@ -5,8 +5,7 @@ use mathlib.Core.Path.{_≡_, refl, ap, _∙_}
 use mathlib.Core.List.{List}
 use lib.ListN.{length, set, length-set}
 use lib.Seq.{paste, paste-zero}
-use Rattle.logic.specs.Structure.{at}
-use Rattle.logic.specs.Order.{firsts}
+use Rattle.prelude.specs.Lists.{at, firsts}
 use Rattle.tables.proofs.Grids.{cell-more}
 use borrow.Author.Needs.{needs}
 use Rattle.tables.proofs.write_row.Statement.{statement}

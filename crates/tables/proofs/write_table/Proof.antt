@@ -4,7 +4,7 @@ use native.Mathlib.Omega.{arith}
 use mathlib.Core.Path.{_≡_, refl, ap, sym, _∙_}
 use lib.ListN.{length, take}
 use lib.Seq.{take-all}
-use Rattle.tables.specs.Grid.{gridCell, grid}
+use Rattle.tables.specs.Grid.{cell, grid}
 use Rattle.tables.proofs.Grids.{next-row, row-start, row-more, length-row}
 use borrow.Author.Needs.{needs}
 use Rattle.tables.proofs.write_table.Statement.{statement}
@@ -53,7 +53,7 @@ loop-again c =
     let e = c .before .before .write-row .ensures in (
       omega arith,
       row-start (l .r) (s .columns) (l .start) (l .inv .1),
-      ap length e ∙ length-row (l .out) (l .start) (s .columns) (gridCell (s .t2) (l .r)) h ∙ l .inv .2,
+      ap length e ∙ length-row (l .out) (l .start) (s .columns) (cell (s .t2) (l .r)) h ∙ l .inv .2,
       ap (take (l .start + s .columns)) e ∙ row-more (l .out) (s .t2) (l .r) (s .columns) (l .start) h (l .inv .3),
     )
 

@@ -2,19 +2,19 @@
 use mathlib.Core.Path.{refl, sym, _∙_}
 use mathlib.Core.List.{[], _∷_}
 use Rattle.sheet.specs.Layout.{kindOf}
-use Rattle.sheet.proofs.Pack.{holds}
+use Rattle.sheet.proofs.Pack.{contents}
 use Rattle.sheet.proofs.Causes.{placed, no-total, no-rank}
-use Rattle.sheet.specs.Step.{bytesOf}
+use Rattle.sheet.specs.Parts.{bytesOf}
 use Rattle.sheet.proofs.ByKind.{fixed, two-bytes, one-byte, later-at, sized-at}
 use borrow.Author.Needs.{needs}
 use Rattle.sheet.proofs.faults.fault.Statement.{statement}
 use Rattle.sheet.proofs.faults.fault.Tie as tie
 
-field-fault-requires : tie.Need-field-fault-requires
-field-fault-requires c κs = search needs
+sort-fault-requires : tie.Need-sort-fault-requires
+sort-fault-requires c κs = search needs
 
-name-fault-requires : tie.Need-name-fault-requires
-name-fault-requires c κs = search needs
+symbol-fault-requires : tie.Need-symbol-fault-requires
+symbol-fault-requires c κs = search needs
 
 term-fault-requires : tie.Need-term-fault-requires
 term-fault-requires c κs = search needs
@@ -31,28 +31,28 @@ total-fault-requires c κs = search needs
 returns : tie.Need-returns
 returns c k pl wl =
     let a = c .before .before .args in
-    let h = holds (a .p) (k .sheet) (k .same) in
-    c .field-fault .ensures (k .sheet) (h .sorts)
+    let h = contents (a .p) (k .sheet) (k .same) in
+    c .sort-fault .ensures (k .sheet) (h .sorts)
     ∙ later-at (k .sheet) (a .kind) 1 (a .q .b0 ∷ a .q .b1 ∷ []) (bytesOf (a .q)) (c .before .match .keys1)
     (two-bytes (a .q) (fixed 2 (a .q .len) (sized-at (a .kind) 1 (a .q .len) (c .before .match .keys1) wl)))
 
 returns-2 : tie.Need-returns-2
 returns-2 c k pl wl =
     let a = c .before .before .args in
-    let h = holds (a .p) (k .sheet) (k .same) in
-    c .name-fault .ensures (k .sheet) (h .symbols) (h .sorts)
+    let h = contents (a .p) (k .sheet) (k .same) in
+    c .symbol-fault .ensures (k .sheet) (h .symbols) (h .sorts)
     ∙ later-at (k .sheet) (a .kind) 2 (bytesOf (a .q)) (bytesOf (a .q)) (c .before .match .keys2) refl
 
 returns-3 : tie.Need-returns-3
 returns-3 c k pl wl =
     let a = c .before .before .args in
-    let h = holds (a .p) (k .sheet) (k .same) in
+    let h = contents (a .p) (k .sheet) (k .same) in
     c .term-fault .ensures k ∙ later-at (k .sheet) (a .kind) 3 (bytesOf (a .q)) (bytesOf (a .q)) (c .before .match .keys3) refl
 
 returns-4 : tie.Need-returns-4
 returns-4 c k pl wl =
     let a = c .before .before .args in
-    let h = holds (a .p) (k .sheet) (k .same) in
+    let h = contents (a .p) (k .sheet) (k .same) in
     c .literal-fault .ensures k
     ∙ later-at (k .sheet) (a .kind) 4 (a .q .b0 ∷ a .q .b1 ∷ []) (bytesOf (a .q)) (c .before .match .keys4)
     (two-bytes (a .q) (fixed 2 (a .q .len) (sized-at (a .kind) 4 (a .q .len) (c .before .match .keys4) wl)))
@@ -60,7 +60,7 @@ returns-4 c k pl wl =
 returns-5 : tie.Need-returns-5
 returns-5 c k pl wl =
     let a = c .before .before .args in
-    let h = holds (a .p) (k .sheet) (k .same) in
+    let h = contents (a .p) (k .sheet) (k .same) in
     c .literal-fault2 .ensures k
     ∙ later-at (k .sheet) (a .kind) 5 (a .q .b0 ∷ a .q .b1 ∷ []) (bytesOf (a .q)) (c .before .match .keys5)
     (two-bytes (a .q) (fixed 2 (a .q .len) (sized-at (a .kind) 5 (a .q .len) (c .before .match .keys5) wl)))
@@ -68,7 +68,7 @@ returns-5 c k pl wl =
 returns-6 : tie.Need-returns-6
 returns-6 c k pl wl =
     let a = c .before .before .args in
-    let h = holds (a .p) (k .sheet) (k .same) in
+    let h = contents (a .p) (k .sheet) (k .same) in
     c .total-fault .ensures (k .sheet) (no-total (k .sheet) (placed (k .sheet) (kindOf (a .kind)) pl .open′))
     ∙ later-at (k .sheet) (a .kind) 6 (a .q .b0 ∷ []) (bytesOf (a .q)) (c .before .match .keys6)
     (one-byte (a .q) (fixed 1 (a .q .len) (sized-at (a .kind) 6 (a .q .len) (c .before .match .keys6) wl)))
@@ -85,8 +85,8 @@ pub fault-spec : {M : Type 1} → statement M
 fault-spec =
     tie.close
     (tie.spec
-    field-fault-requires
-    name-fault-requires
+    sort-fault-requires
+    symbol-fault-requires
     term-fault-requires
     literal-fault-requires
     literal-fault-requires-2

@@ -7,8 +7,9 @@ use lib.Dec.{ltb, eqb}
 use mathlib.Core.List.{_∷_}
 use lib.ListN.{getD}
 use borrow.Author.Tests.{eq-eqb, ne-eqb}
-use Rattle.sheet.specs.Layout.{if, expression, illSorted}
-use Rattle.sheet.proofs.Pack.{holds}
+use Rattle.prelude.specs.Tests.{if}
+use Rattle.sheet.specs.Layout.{expression, illSorted}
+use Rattle.sheet.proofs.Pack.{contents}
 use Rattle.sheet.proofs.Pairs.{argsOf, front, args-few, args-first, args-second, all-below}
 use Rattle.sheet.proofs.Terms.{ill-sorted-by}
 use borrow.Author.Needs.{needs}
@@ -22,7 +23,7 @@ sort-of-requires : tie.Need-sort-of-requires
 sort-of-requires c κs =
     let a = c .before .args in
     let k = c .before .pre .0 in
-    let h = holds (a .t1) (k .sheet) (k .same) in
+    let h = contents (a .t1) (k .sheet) (k .same) in
     let n = k .sofar .terms in
     let m = k .sofar .symbols in
     omega arith
@@ -31,7 +32,7 @@ element-copy-out-if1 : tie.Need-element-copy-out-if1
 element-copy-out-if1 c =
     let a = c .before .before .args in
     let k = c .before .before .pre .0 in
-    let h = holds (a .t1) (k .sheet) (k .same) in
+    let h = contents (a .t1) (k .sheet) (k .same) in
     let n = k .sofar .terms in
     let m = k .sofar .symbols in
     omega arith
@@ -56,7 +57,7 @@ sort-of-requires-2 : tie.Need-sort-of-requires-2
 sort-of-requires-2 c κs =
     let a = c .before .before .before .before .args in
     let k = c .before .before .before .before .pre .0 in
-    let h = holds (a .t1) (k .sheet) (k .same) in
+    let h = contents (a .t1) (k .sheet) (k .same) in
     let n = k .sofar .terms in
     let m = k .sofar .symbols in
     omega arith
@@ -65,7 +66,7 @@ element-copy-out-result : tie.Need-element-copy-out-result
 element-copy-out-result c =
     let a = c .before .before .before .before .before .args in
     let k = c .before .before .before .before .before .pre .0 in
-    let h = holds (a .t1) (k .sheet) (k .same) in
+    let h = contents (a .t1) (k .sheet) (k .same) in
     let n = k .sofar .terms in
     let m = k .sofar .symbols in
     omega arith

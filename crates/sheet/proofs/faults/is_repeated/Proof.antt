@@ -6,8 +6,8 @@ use mathlib.Core.Path.{_≡_, refl, ap, sym, _∙_}
 use mathlib.Core.Bool.{Bool, _||_}
 use lib.ListN.{drop}
 use Rattle.sheet.specs.Layout.{occurs}
-use Rattle.sheet.specs.SoFar.{Known}
-use Rattle.sheet.proofs.Pack.{holds}
+use Rattle.sheet.specs.Parts.{PartRead}
+use Rattle.sheet.proofs.Pack.{contents}
 use Rattle.sheet.proofs.Pairs.{argsOf, args-pair, args-first, args-second}
 use Rattle.sheet.proofs.Terms.{occurs-step, occurs-end}
 use Rattle.sheet.proofs.faults.is_repeated.Statement.{statement}
@@ -16,7 +16,7 @@ use Rattle.sheet.proofs.faults.is_repeated.Tie as tie
 abbrev Inv-loop : tie.InvT-loop
 Inv-loop q p i₀ i =
     (i ≤ p .terms) ×
-    ((k : Known p) → occurs (q .b0) (argsOf q) (k .sheet .terms) ≡ occurs (q .b0) (argsOf q) (drop i (k .sheet .terms)))
+    ((k : PartRead p) → occurs (q .b0) (argsOf q) (k .sheet .terms) ≡ occurs (q .b0) (argsOf q) (drop i (k .sheet .terms)))
 
 abbrev μ-loop : tie.MeasureT-loop
 μ-loop q p i₀ i = p .terms - i
@@ -28,7 +28,7 @@ element-copy-out-is-same : tie.Need-element-copy-out-is-same Inv-loop μ-loop
 element-copy-out-is-same c =
     let a = c .before .before .args in
     let k = c .before .before .pre .0 in
-    let h = holds (a .t1) (k .sheet) (k .same) in
+    let h = contents (a .t1) (k .sheet) (k .same) in
     let n = k .sofar .terms in
     omega arith
 
@@ -36,7 +36,7 @@ element-copy-out-is-same-2 : tie.Need-element-copy-out-is-same-2 Inv-loop μ-loo
 element-copy-out-is-same-2 c =
     let a = c .before .before .before .args in
     let k = c .before .before .before .pre .0 in
-    let h = holds (a .t1) (k .sheet) (k .same) in
+    let h = contents (a .t1) (k .sheet) (k .same) in
     let n = k .sofar .terms in
     omega arith
 
@@ -44,7 +44,7 @@ element-copy-out-is-same-3 : tie.Need-element-copy-out-is-same-3 Inv-loop μ-loo
 element-copy-out-is-same-3 c =
     let a = c .before .before .before .before .args in
     let k = c .before .before .before .before .pre .0 in
-    let h = holds (a .t1) (k .sheet) (k .same) in
+    let h = contents (a .t1) (k .sheet) (k .same) in
     let n = k .sofar .terms in
     omega arith
 
@@ -59,7 +59,7 @@ returns c k =
     ∙ occurs-step (a .t1) k (a .q .b0) (argsOf (a .q)) (a .q .b1) (a .q .b2) (c .before .is-same .result)
     (c .before .before .before .before .before .before .loop .i)
     (args-pair (a .q) (a .t1 .terms) (c .before .before .before .before .before .before .before .pre .1 .0)
-    (let h = holds (a .t1) (k .sheet) (k .same) in let n = k .sofar .terms in omega arith)
+    (let h = contents (a .t1) (k .sheet) (k .same) in let n = k .sofar .terms in omega arith)
     (c .before .before .before .before .before .before .before .pre .1 .1))
     (args-first (a .q) (c .before .before .before .before .before .before .before .pre .1 .0))
     (args-second (a .q) (c .before .before .before .before .before .before .before .pre .1 .0))
@@ -74,7 +74,7 @@ add-i : tie.Need-add-i Inv-loop μ-loop
 add-i c =
     let a = c .before .before .before .before .before .before .before .args in
     let k = c .before .before .before .before .before .before .before .pre .0 in
-    let h = holds (a .t1) (k .sheet) (k .same) in
+    let h = contents (a .t1) (k .sheet) (k .same) in
     let n = k .sofar .terms in
     omega arith
 
@@ -90,7 +90,7 @@ loop-again c = (
       ∙ occurs-step (a .t1) k (a .q .b0) (argsOf (a .q)) (a .q .b1) (a .q .b2) (c .before .is-same .result)
       (c .before .before .before .before .before .before .loop .i)
       (args-pair (a .q) (a .t1 .terms) (c .before .before .before .before .before .before .before .pre .1 .0)
-      (let h = holds (a .t1) (k .sheet) (k .same) in let n = k .sofar .terms in omega arith)
+      (let h = contents (a .t1) (k .sheet) (k .same) in let n = k .sofar .terms in omega arith)
       (c .before .before .before .before .before .before .before .pre .1 .1))
       (args-first (a .q) (c .before .before .before .before .before .before .before .pre .1 .0))
       (args-second (a .q) (c .before .before .before .before .before .before .before .pre .1 .0))

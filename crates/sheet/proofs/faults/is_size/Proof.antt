@@ -1,3 +1,4 @@
+-- The test is that of `within`.
 use borrow.Author.Tests.{le-leb, lt-leb}
 use Rattle.sheet.proofs.faults.is_size.Statement.{statement}
 use Rattle.sheet.proofs.faults.is_size.Tie as tie

@@ -1,4 +1,4 @@
--- The table has the limits.
+-- The table has the shortest and the longest length.
 use mathlib.Core.Path.{_∙_}
 use Rattle.sheet.proofs.Causes.{too-short, too-long}
 use borrow.Author.Needs.{needs}

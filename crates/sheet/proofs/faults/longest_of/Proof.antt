@@ -1,4 +1,4 @@
--- The code's table and `limits` are the same list.
+-- The code's table and `lengths` are the same list.
 use mathlib.Core.Path.{refl}
 use borrow.Author.Needs.{needs}
 use Rattle.sheet.proofs.faults.longest_of.Statement.{statement}

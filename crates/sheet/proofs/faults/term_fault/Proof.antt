@@ -4,9 +4,10 @@ use native.Mathlib.Omega.{arith}
 use mathlib.Core.Path.{ap, sym, _∙_}
 use lib.Dec.{ltb}
 use borrow.Author.Tests.{not-true, not-false}
-use Rattle.sheet.specs.Layout.{expression, all, illSorted}
+use Rattle.prelude.specs.Tests.{all}
+use Rattle.sheet.specs.Layout.{expression, illSorted}
 use Rattle.sheet.specs.Parts.{later}
-use Rattle.sheet.proofs.Pack.{holds}
+use Rattle.sheet.proofs.Pack.{contents}
 use Rattle.sheet.proofs.Causes.{term-many, term-symbol, term-args, term-sorts, term-again, term-fine}
 use Rattle.sheet.proofs.Pairs.{argsOf, front}
 use borrow.Author.Needs.{needs}
@@ -16,7 +17,7 @@ use Rattle.sheet.proofs.faults.term_fault.Tie as tie
 returns : tie.Need-returns
 returns c k =
     let a = c .before .before .args in
-    let h = holds (a .p) (k .sheet) (k .same) in
+    let h = contents (a .p) (k .sheet) (k .same) in
     term-many (k .sheet) (a .q .b0) (argsOf (a .q)) (omega arith)
     ∙ sym (ap (later (k .sheet) expression) (front (a .q) (c .before .before .pre .1)))
 
@@ -26,7 +27,7 @@ wide-requires c κs = search needs
 returns-2 : tie.Need-returns-2
 returns-2 c k =
     let a = c .before .before .before .before .before .args in
-    let h = holds (a .p) (k .sheet) (k .same) in
+    let h = contents (a .p) (k .sheet) (k .same) in
     term-symbol (k .sheet) (a .q .b0) (argsOf (a .q)) (omega arith) (omega arith)
     ∙ sym (ap (later (k .sheet) expression) (front (a .q) (c .before .before .before .before .before .pre .1)))
 
@@ -36,7 +37,7 @@ rest-below-requires c κs = search needs
 returns-3 : tie.Need-returns-3
 returns-3 c k =
     let a = c .before .before .before .before .before .before .before .args in
-    let h = holds (a .p) (k .sheet) (k .same) in
+    let h = contents (a .p) (k .sheet) (k .same) in
     term-args (k .sheet) (a .q .b0) (argsOf (a .q)) (omega arith) (omega arith)
     (ap (λ (n : ℕ). all (λ x. ltb x n) (argsOf (a .q))) (sym (h .terms))
     ∙ sym (c .before .rest-below .ensures)
@@ -56,7 +57,7 @@ is-ill-sorted-requires c κs =
 returns-4 : tie.Need-returns-4
 returns-4 c k =
     let a = c .before .before .before .before .before .before .before .before .before .args in
-    let h = holds (a .p) (k .sheet) (k .same) in
+    let h = contents (a .p) (k .sheet) (k .same) in
     term-sorts (k .sheet) (a .q .b0) (argsOf (a .q)) (omega arith) (omega arith)
     (ap (λ (n : ℕ). all (λ x. ltb x n) (argsOf (a .q))) (sym (h .terms))
     ∙ sym (c .before .before .before .rest-below .ensures)
@@ -83,7 +84,7 @@ is-repeated-requires c κs = (
 returns-5 : tie.Need-returns-5
 returns-5 c k =
     let a = c .before .before .before .before .before .before .before .before .before .before .before .args in
-    let h = holds (a .p) (k .sheet) (k .same) in
+    let h = contents (a .p) (k .sheet) (k .same) in
     term-again (k .sheet) (a .q .b0) (argsOf (a .q)) (omega arith) (omega arith)
     (ap (λ (n : ℕ). all (λ x. ltb x n) (argsOf (a .q))) (sym (h .terms))
     ∙ sym (c .before .before .before .before .before .rest-below .ensures)
@@ -100,7 +101,7 @@ returns-5 c k =
 returns-6 : tie.Need-returns-6
 returns-6 c k =
     let a = c .before .before .before .before .before .before .before .before .before .before .before .args in
-    let h = holds (a .p) (k .sheet) (k .same) in
+    let h = contents (a .p) (k .sheet) (k .same) in
     term-fine (k .sheet) (a .q .b0) (argsOf (a .q)) (omega arith) (omega arith)
     (ap (λ (n : ℕ). all (λ x. ltb x n) (argsOf (a .q))) (sym (h .terms))
     ∙ sym (c .before .before .before .before .before .rest-below .ensures)

@@ -3,9 +3,9 @@ use native.Mathlib.Omega.{arith}
 use mathlib.Core.Path.{refl, ap, sym, _∙_}
 use mathlib.Core.List.{[], _∷_}
 use mathlib.Core.Bool.{true, false}
-use Rattle.sheet.proofs.Pack.{holds}
+use Rattle.sheet.proofs.Pack.{contents}
 use Rattle.sheet.proofs.Causes.{no-rank}
-use Rattle.sheet.specs.Step.{bytesOf}
+use Rattle.sheet.specs.Parts.{bytesOf}
 use Rattle.sheet.specs.Packed.{packed}
 use Rattle.sheet.proofs.Pairs.{argsOf, front}
 use Rattle.sheet.proofs.ByKind.{fixed, two-bytes, one-byte, add-at, good-at, good-placed, field-room, name-room, name-early, term-room, term-there, literal-room, literal-room′}
@@ -13,19 +13,19 @@ use borrow.Author.Needs.{needs}
 use Rattle.sheet.proofs.grow.added.Statement.{statement}
 use Rattle.sheet.proofs.grow.added.Tie as tie
 
-with-field-requires : tie.Need-with-field-requires
-with-field-requires c κs =
+with-sort-requires : tie.Need-with-sort-requires
+with-sort-requires c κs =
     let a = c .before .args in
     let k = c .before .pre .0 in
-    let h = holds (a .p) (k .sheet) (k .same) in
+    let h = contents (a .p) (k .sheet) (k .same) in
     let z = field-room (k .sheet) (a .q) (good-at (k .sheet) (a .kind) 1 (a .q) (c .match .keys1) (c .before .pre .1 .1 k)) in
     omega arith
 
-with-name-requires : tie.Need-with-name-requires
-with-name-requires c κs =
+with-symbol-requires : tie.Need-with-symbol-requires
+with-symbol-requires c κs =
     let a = c .before .args in
     let k = c .before .pre .0 in
-    let h = holds (a .p) (k .sheet) (k .same) in
+    let h = contents (a .p) (k .sheet) (k .same) in
     let z = name-room (k .sheet) (a .q) (good-at (k .sheet) (a .kind) 2 (a .q) (c .match .keys2) (c .before .pre .1 .1 k)) in
     (omega arith, c .before .pre .1 .0)
 
@@ -33,7 +33,7 @@ with-term-requires : tie.Need-with-term-requires
 with-term-requires c κs =
     let a = c .before .args in
     let k = c .before .pre .0 in
-    let h = holds (a .p) (k .sheet) (k .same) in
+    let h = contents (a .p) (k .sheet) (k .same) in
     let z = term-room (k .sheet) (a .q) (good-at (k .sheet) (a .kind) 3 (a .q) (c .match .keys3) (c .before .pre .1 .1 k)) in
     let y =
     term-there (k .sheet) (a .q) (c .before .pre .1 .0)
@@ -44,7 +44,7 @@ with-literal-requires : tie.Need-with-literal-requires
 with-literal-requires c κs =
     let a = c .before .args in
     let k = c .before .pre .0 in
-    let h = holds (a .p) (k .sheet) (k .same) in
+    let h = contents (a .p) (k .sheet) (k .same) in
     let z = literal-room (k .sheet) (a .q) (good-at (k .sheet) (a .kind) 4 (a .q) (c .match .keys4) (c .before .pre .1 .1 k)) in
     omega arith
 
@@ -52,7 +52,7 @@ with-literal-requires-2 : tie.Need-with-literal-requires-2
 with-literal-requires-2 c κs =
     let a = c .before .args in
     let k = c .before .pre .0 in
-    let h = holds (a .p) (k .sheet) (k .same) in
+    let h = contents (a .p) (k .sheet) (k .same) in
     let z =
     literal-room′ (k .sheet) (a .q) (good-at (k .sheet) (a .kind) 5 (a .q) (c .match .keys5) (c .before .pre .1 .1 k)) in
     omega arith
@@ -63,7 +63,7 @@ with-total-requires c κs = search needs
 returns : tie.Need-returns
 returns c k =
     let a = c .before .before .args in
-    c .with-field .ensures (k .sheet) (k .same)
+    c .with-sort .ensures (k .sheet) (k .same)
     ∙ ap packed
     (add-at (k .sheet) (a .kind) 1 (a .q .b0 ∷ a .q .b1 ∷ []) (bytesOf (a .q)) (c .before .match .keys1)
     (two-bytes (a .q)
@@ -73,7 +73,7 @@ returns c k =
 returns-2 : tie.Need-returns-2
 returns-2 c k =
     let a = c .before .before .args in
-    c .with-name .ensures (k .sheet) (k .same)
+    c .with-symbol .ensures (k .sheet) (k .same)
     (name-early (k .sheet) (a .q)
     (good-at (k .sheet) (a .kind) 2 (a .q) (c .before .match .keys2) (c .before .before .pre .1 .1 k)))
     ∙ ap packed
@@ -132,8 +132,8 @@ pub added-spec : {M : Type 1} → statement M
 added-spec =
     tie.close
     (tie.spec
-    with-field-requires
-    with-name-requires
+    with-sort-requires
+    with-symbol-requires
     with-term-requires
     with-literal-requires
     with-literal-requires-2

@@ -1,9 +1,9 @@
--- An entry more in the arrays of the statements.
+-- An entry more in the arrays of the literals.
 use Prim.Native.Nat.{ℕ}
 use native.Mathlib.Omega.{arith}
 use mathlib.Core.Path.{ap, _∙_}
 use Rattle.sheet.specs.declared.Parsed.{Parsed}
-use Rattle.sheet.proofs.Pack.{holds, moreLiteral, literal-packed}
+use Rattle.sheet.proofs.Pack.{contents, moreLiteral, literal-packed}
 use Rattle.sheet.specs.Packed.{bit}
 use borrow.Author.Needs.{needs}
 use Rattle.sheet.proofs.grow.with_literal.Statement.{statement}
@@ -24,7 +24,7 @@ add-out c = search needs
 returns : tie.Need-returns
 returns c sh b e eb =
     let a = c .args in
-    let h = holds (a .p) sh e in
+    let h = contents (a .p) sh e in
     ap (λ (x : ℕ). moreLiteral (a .p) x (a .b0) (a .b1)) eb
     ∙ ap (λ (p : Parsed). moreLiteral p (bit b) (a .b0) (a .b1)) e
     ∙ literal-packed sh (record { equal = b; left = a .b0; right = a .b1 }) (omega arith)

@@ -1,11 +1,11 @@
--- An entry more in the arrays of the expressions.
+-- An entry more in the arrays of the terms.
 use Prim.Native.Nat.{ℕ}
 use native.Mathlib.Omega.{arith}
 use mathlib.Core.Path.{ap, sym, _∙_}
 use Rattle.sheet.specs.declared.Parsed.{Parsed}
 use Rattle.logic.specs.Sheet.{symbolAt}
 use lib.ListN.{getD}
-use Rattle.sheet.proofs.Pack.{holds, moreTerm, term-packed}
+use Rattle.sheet.proofs.Pack.{contents, moreTerm, term-packed}
 use Rattle.sheet.specs.Packed.{packed, first}
 use Rattle.sheet.proofs.Pairs.{argsOf, args-first, args-second}
 use borrow.Author.Needs.{needs}
@@ -36,7 +36,7 @@ add-out c = search needs
 returns : tie.Need-returns
 returns c sh e there =
     let a = c .before .before .args in
-    let h = holds (a .t1) sh e in
+    let h = contents (a .t1) sh e in
     let s = symbolAt sh (a .q .b0) .result in
     ap (λ (x : ℕ). moreTerm (a .t1) (a .q .b0) (a .q .b1) (a .q .b2) x)
     (ap (λ (i : ℕ). getD (a .t1 .result) i 0) (c .before .wide .ensures .0) ∙ h .result (a .q .b0) there)

@@ -1,0 +1,2 @@
+pub mod Searchable
+pub mod Parts

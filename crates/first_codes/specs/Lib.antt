@@ -1,0 +1,2 @@
+pub mod FirstCodes
+pub mod Parts

@@ -1,0 +1,2 @@
+pub mod LeastSizes
+pub mod Parts

@@ -1,0 +1,15 @@
+-- The longest sheet has 2,161 bytes and is accepted: both are computed.
+use mathlib.Core.Path.{_≡_, refl}
+use mathlib.Core.List.{flatMap}
+use lib.ListN.{length}
+use Rattle.sheet.specs.Layout.{accepted, cause, readFrom, reading}
+use Rattle.sheet.specs.Encode.{encode}
+use Rattle.longest_sheet.specs.LongestSheet.{longestSheet}
+
+pub longest-length : length (encode longestSheet) ≡ 2161
+unfolding encode flatMap longestSheet
+longest-length = refl
+
+pub longest-read : reading (encode longestSheet) ≡ accepted longestSheet
+unfolding encode flatMap longestSheet reading readFrom cause
+longest-read = refl

@@ -1,0 +1,56 @@
+// Random small sheets from a fixed seed. Find, judge, table of a name and forced are asked about each, and what they give is compared
+// with a listing of all interpretations (crate test_listing). The numbers printed are fixed by the seed; a difference is printed with its sheet.
+mod finds; // find is asked
+
+use test_listing::answer;
+use test_listing::apart;
+use test_listing::draw;
+use test_listing::encode;
+use test_listing::forces;
+use test_listing::judges;
+use test_listing::plan::PLAN;
+use test_listing::shape;
+use test_listing::slices;
+use test_listing::tally;
+
+const SHEETS: usize = 4000;
+
+fn main() {
+    let mut state: u64 = 1;
+    let mut counts = [0u64; tally::COUNTS];
+    let mut k: usize = 0;
+    while k < SHEETS {
+        one_sheet(&mut state, &mut counts);
+        k += 1;
+    }
+    tally::report(&counts);
+}
+
+fn one_sheet(state: &mut u64, counts: &mut [u64; tally::COUNTS]) {
+    let p = draw::draw(state);
+    let mut bytes = [0u8; encode::SHEET];
+    let n = encode::encode(p, &mut bytes);
+    tally::drawn(p, counts);
+    compare(p, &bytes, n, counts);
+}
+
+// Asks the questions, each where its listing is within the budget.
+fn compare(
+    p: [u8; PLAN],
+    bytes: &[u8; encode::SHEET],
+    n: usize,
+    counts: &mut [u64; tally::COUNTS],
+) {
+    let sheet = slices::first(bytes, n);
+    let candidates = answer::candidates(p);
+    if candidates <= shape::BUDGET {
+        tally::add(counts, tally::CANDIDATES, candidates);
+        finds::compare(p, sheet, counts);
+        judges::compare(p, sheet, counts);
+    }
+    let structures = apart::structures(p);
+    if structures <= shape::BUDGET {
+        tally::add(counts, tally::STRUCTURES, structures);
+        forces::compare(p, sheet, counts);
+    }
+}

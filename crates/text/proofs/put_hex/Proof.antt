@@ -1,0 +1,53 @@
+-- `text::put_hex` meets its contract.
+use borrow.Author.Needs.{needs}
+use Prim.Native.Nat.{_-_}
+use native.Mathlib.Omega.{arith}
+use lib.ListN.{length}
+use Rattle.text.proofs.Hex.{HexWritten, none-written, next-fits, next-written, kept-length, all-written}
+use Rattle.text.proofs.put_hex.Statement.{statement}
+use Rattle.text.proofs.put_hex.Tie as tie
+
+abbrev Inv-loop : tie.InvT-loop
+Inv-loop out₀ from s at₀ done₀ out at done = HexWritten out₀ from s out at done
+
+abbrev μ-loop : tie.MeasureT-loop
+μ-loop out₀ from s at₀ done₀ out at done = length s - done
+
+loop-holds : tie.Need-loop-holds Inv-loop μ-loop
+loop-holds c = let m = c .before .before in none-written (m .args .out .now) (m .args .from) (m .args .s .now) (omega (arith, m .pre))
+
+shared-slice-read-put-byte : tie.Need-shared-slice-read-put-byte Inv-loop μ-loop
+shared-slice-read-put-byte c = search needs
+
+put-byte-requires : tie.Need-put-byte-requires Inv-loop μ-loop
+put-byte-requires c κs = let m = c .before .before .before .before .before .before in let l = c .before .before .before .loop in next-fits (m .args .out .now) (m .args .from) (m .args .s .now) (l .out) (l .at) (l .done) (l .inv) (m .pre) (c .before .before .loop-test .taken)
+
+add-done : tie.Need-add-done Inv-loop μ-loop
+add-done c = search needs
+
+loop-less : tie.Need-loop-less Inv-loop μ-loop
+loop-less c = search needs
+
+loop-again : tie.Need-loop-again Inv-loop μ-loop
+loop-again c = let m = c .before .before .before .before .before .before .before .before .before in let l = c .before .before .before .before .before .before .loop in next-written (m .args .out .now) (m .args .from) (m .args .s .now) (l .out) (l .at) (l .done) (l .inv) (m .pre) (c .before .before .before .before .before .loop-test .taken) (c .before .before .put-byte .ensures)
+
+same-length : tie.Need-same-length Inv-loop μ-loop
+same-length c = let m = c .before .before .before .before in let l = c .before .loop in kept-length (m .args .out .now) (m .args .from) (m .args .s .now) (l .out) (l .at) (l .done) (l .inv) (m .pre)
+
+returns : tie.Need-returns Inv-loop μ-loop
+returns c = let m = c .before .before .before .before in let l = c .before .loop in all-written (m .args .out .now) (m .args .from) (m .args .s .now) (l .out) (l .at) (l .done) (l .inv) (m .pre) (c .loop-test .left)
+
+pub put-hex-spec : {M : Type 1} → statement M
+put-hex-spec =
+    tie.close
+    (tie.spec
+    Inv-loop
+    μ-loop
+    loop-holds
+    shared-slice-read-put-byte
+    put-byte-requires
+    add-done
+    loop-less
+    loop-again
+    same-length
+    returns)
