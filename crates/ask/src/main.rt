@@ -1,8 +1,5 @@
 // Answers questions, one a line of standard input, with one line each on standard output. All whole lines that were read are answered
 // before more is read. The program stops at the end of the input and, with a line on standard error, at the first read or write that fails.
-mod replies;
-mod verbs;
-
 use libc::STDERR_FILENO;
 use libc::STDIN_FILENO;
 use libc::STDOUT_FILENO;
@@ -10,7 +7,7 @@ ghost use Prim.Native.Nat.{_≤_};
 ghost use lib.ListN.{length};
 
 // A line that is being read: two characters more than a line may have, so that one that is too long shows even where its last
-// character is a carriage return. What is longer is cut, which changes no answer (`cut-reply` of proofs/Asking.antt).
+// character is a carriage return. What is longer is cut, which changes no answer (`cut-reply` of replies/proofs/LineEnds.antt).
 const HELD: usize = 262146;
 
 // An answer: the longest is that of find with all of its tables.
@@ -23,7 +20,7 @@ struct Rest {
 }
 
 // Puts a part behind what is held of a line, as much of it as there is room for, and gives how much is held then.
-fn hold(line: &mut [u8], held: usize, part: &[u8]) -> usize
+fn append(line: &mut [u8], held: usize, part: &[u8]) -> usize
     requires { ⌜ held ≤ length (now line) ⌝ }
     ensures { λ r. ⌜ r ≤ length (now (line .entry)) ⌝ }
 {
@@ -40,7 +37,7 @@ fn hold(line: &mut [u8], held: usize, part: &[u8]) -> usize
 fn answer_held(line: &[u8], held: usize, out: &mut [u8]) -> bool
     requires { ⌜ (held ≤ length (now line)) × (65536 ≤ length (now out)) ⌝ }
 {
-    let n = verbs::answer(&line[..held], out);
+    let n = replies::answer(&line[..held], out);
     if io::write_all(STDOUT_FILENO, &out[..n]) {
         return true;
     }
@@ -57,7 +54,7 @@ fn take_lines(part: &[u8], line: &mut [u8], before: usize, out: &mut [u8]) -> Re
     let mut from: usize = 0;
     while from < part.len() {
         let end = bytes::scan::find(part, from, part.len(), b'\n');
-        held = hold(line, held, &part[from..end]);
+        held = append(line, held, &part[from..end]);
         if end == part.len() {
             return Rest { held, more: true };
         }

@@ -6,7 +6,7 @@ use native.Mathlib.Numerals.{add-one}
 use native.Mathlib.Omega.{arith}
 use native.Mathlib.Decide.{decLt, ℕ-discrete}
 use mathlib.Core.Path.{_≡_, refl, ap, sym, _∙_, subst}
-use mathlib.Core.Bool.{Bool, true, false, false≢true}
+use mathlib.Core.Bool.{Bool, true, false, false≢true, cond}
 use mathlib.Core.Logic.{_↔_, _⊎_, inl, inr}
 use mathlib.Core.List.{List, [], _∷_, map}
 use lib.ListN.{length, length-map, List·getD-eq-default}
@@ -14,16 +14,16 @@ use lib.Seq.{ext-getD}
 use lib.Dec.{eqb}
 use borrow.Author.Tests.{eq-eqb, ne-eqb, eqb-true}
 use Rattle.logic.specs.Sheet.{Sheet, termAt, literalAt}
-use Rattle.prelude.specs.Tests.{Each, if, sameList}
+use Rattle.prelude.specs.Tests.{Each, sameList}
 use Rattle.prelude.specs.Lists.{at, sumTo, run}
 use Rattle.prelude.proofs.Tests.{and-both, sameList-same, same-sameList}
 use Rattle.prelude.proofs.Lists.{map-each, length-run, at-run, sumTo-monotone, sumTo-equal}
 use Rattle.logic.specs.WellFormed.{WellFormed}
 use Rattle.logic.specs.Problem.{Problem}
-use Rattle.sheet.specs.Packed.{packed, view, bit}
-use Rattle.sheet.specs.Views.{Views}
-use Rattle.sheet.proofs.Pairs.{each-weaken, pair-map}
-use Rattle.sheet.proofs.View.{packed-views}
+use Rattle.layout.specs.Packed.{packed, view, bit}
+use Rattle.layout.specs.Views.{Views}
+use Rattle.layout.proofs.AtMostTwo.{each-weaken, pair-map}
+use Rattle.layout.proofs.View.{packed-views}
 use Rattle.congruence.specs.Closure.{join, joinSides, alike, joinAlike, forEach, stated, round, rounds, labels, together}
 use Rattle.congruence.specs.Forced.{Forced}
 use Rattle.congruence.specs.Groups.{Lowest, Groups, alone}
@@ -48,7 +48,7 @@ length-for-each : (f : ℕ → List ℕ → List ℕ) → ((k : ℕ) (m : List �
 length-for-each f keeps zero l = refl
 length-for-each f keeps (suc n) l = keeps n (forEach n f l) ∙ length-for-each f keeps n l
 
-length-join-if : (b : Bool) (i j : ℕ) (l : List ℕ) → length (if b (join i j l) l) ≡ length l
+length-join-if : (b : Bool) (i j : ℕ) (l : List ℕ) → length (cond b (join i j l) l) ≡ length l
 length-join-if true i j l = length-map l _
 length-join-if false i j l = refl
 
@@ -83,7 +83,7 @@ start-lowest n =
 
 -- The number of groups: of the terms whose label is their own number.
 own : (ℕ → ℕ) → ℕ → ℕ
-own l k = if (eqb (l k) k) 1 0
+own l k = cond (eqb (l k) k) 1 0
 
 own-label : (l : ℕ → ℕ) (k : ℕ) → l k ≡ k → own l k ≡ 1
 unfolding own

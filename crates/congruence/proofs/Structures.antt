@@ -14,9 +14,9 @@ use Rattle.prelude.specs.Tests.{Each}
 use Rattle.logic.specs.WellFormed.{WellFormed}
 use Rattle.logic.specs.Problem.{Problem}
 use Rattle.logic.proofs.Meaning.{code-congruent, codes-own, few-arguments}
-use Rattle.sheet.specs.Packed.{first, second, bit}
-use Rattle.sheet.specs.Views.{Views}
-use Rattle.sheet.proofs.Pairs.{each-weaken, pair-map}
+use Rattle.layout.specs.Packed.{first, second, bit}
+use Rattle.layout.specs.Views.{Views}
+use Rattle.layout.proofs.AtMostTwo.{each-weaken, pair-map}
 use Rattle.congruence.specs.Groups.{Models, Entails, Groups, Closable, alone}
 use Rattle.congruence.specs.Forced.{Forced}
 

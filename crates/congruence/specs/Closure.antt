@@ -1,17 +1,17 @@
 -- The interface: which terms of a sheet the same statements force together, computed: the closure of the same statements under the
 -- congruence rule. Terms have labels; those of one group have one label, which is the group's lowest-numbered term.
 use Prim.Native.Nat.{ℕ, zero, suc, min, max}
-use mathlib.Core.Bool.{Bool, true, false, _&&_}
+use mathlib.Core.Bool.{Bool, true, false, _&&_, cond}
 use mathlib.Core.List.{List, map}
 use lib.ListN.{length}
 use lib.Dec.{eqb}
 use Rattle.logic.specs.Sheet.{Sheet, Literal, termAt, literalAt}
-use Rattle.prelude.specs.Tests.{if, sameList}
+use Rattle.prelude.specs.Tests.{sameList}
 use Rattle.prelude.specs.Lists.{at, run}
 
 -- hi becomes lo, every other label stays
 abbrev pub relabel : ℕ → ℕ → ℕ → ℕ
-relabel lo hi x = if (eqb x hi) lo x
+relabel lo hi x = cond (eqb x hi) lo x
 
 -- the groups of the terms i and j are made one: the higher of their labels becomes the lower everywhere
 abbrev pub join : ℕ → ℕ → List ℕ → List ℕ
@@ -19,7 +19,7 @@ join i j l = map (relabel (min (at l i) (at l j)) (max (at l i) (at l j))) l
 
 -- a same statement joins its two sides; a differ statement plays no part
 abbrev pub joinSides : Literal → List ℕ → List ℕ
-joinSides s l = if (s .equal) (join (s .left) (s .right) l) l
+joinSides s l = cond (s .equal) (join (s .left) (s .right) l) l
 
 -- two terms have one symbol, and arguments of equal labels
 abbrev pub alike : Sheet → List ℕ → ℕ → ℕ → Bool
@@ -29,7 +29,7 @@ alike sh l i j =
 
 -- the congruence rule joins two terms that are alike
 abbrev pub joinAlike : Sheet → ℕ → ℕ → List ℕ → List ℕ
-joinAlike sh i j l = if (alike sh l i j) (join i j l) l
+joinAlike sh i j l = cond (alike sh l i j) (join i j l) l
 
 -- f 0, then f 1, .. , then f (n - 1) changes the labels
 abbrev pub forEach : ℕ → (ℕ → List ℕ → List ℕ) → List ℕ → List ℕ

@@ -1,9 +1,9 @@
 -- For the proofs alone: what the steps of the closure promise of labels.
 use Prim.Native.Nat.{ℕ, _≤_, _<_, min, max}
 use mathlib.Core.Path.{_≡_}
+use mathlib.Core.Bool.{cond}
 use lib.Dec.{ltb}
 use Rattle.logic.specs.Problem.{Problem}
-use Rattle.prelude.specs.Tests.{if}
 use Rattle.prelude.specs.Limits.{mostTerms}
 use Rattle.congruence.specs.Closure.{relabel}
 use Rattle.congruence.specs.Groups.{Models, Keeps, Lowest}
@@ -15,7 +15,7 @@ Joined l i j m = (k : ℕ) → k < mostTerms → m k ≡ relabel (min (l i) (l j
 
 -- the label of an argument; a missing one, a number past the n terms, stands for itself
 abbrev pub named : ℕ → (ℕ → ℕ) → ℕ → ℕ
-named n l a = if (ltb a n) (l a) a
+named n l a = cond (ltb a n) (l a) a
 
 -- a symbol with the labels of its two arguments
 abbrev pub keyAt : ℕ → (ℕ → ℕ) → ℕ → ℕ → ℕ → Key

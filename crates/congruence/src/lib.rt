@@ -1,15 +1,15 @@
 // The grouping of terms: congruence closure of the same statements. A group's label is its lowest-numbered term.
+use layout::Parsed;
 use prelude::MOST_TERMS;
 use prelude::own_numbers;
 use prelude::wide;
-use sheet::Parsed;
 ghost use Prim.Native.Nat.{_≤_, _<_};
 ghost use mathlib.Core.Path.{_≡_};
 ghost use mathlib.Core.Bool.{true, false};
 ghost use mathlib.Core.List.{map};
 ghost use Rattle.prelude.specs.Lists.{at, sumTo};
 ghost use Rattle.prelude.specs.Limits.{mostTerms};
-ghost use Rattle.sheet.specs.Packed.{view};
+ghost use Rattle.layout.specs.Packed.{view};
 ghost use Rattle.congruence.specs.Closure.{relabel};
 ghost use Rattle.congruence.specs.Groups.{Groups, Closable, Lowest, alone};
 ghost use Rattle.congruence.specs.Parts.{Joined, named, keyAt, Twin, Closed, Coarsening, Stated, Swept};

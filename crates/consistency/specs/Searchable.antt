@@ -4,8 +4,8 @@ use mathlib.Core.Path.{_≡_}
 use Rattle.prelude.specs.Limits.{mostSorts, mostTerms, mostLiterals, mostCodes, mostTotal}
 use Rattle.prelude.specs.Lists.{at}
 use Rattle.logic.specs.Problem.{Problem, WellSorted}
-use Rattle.sheet.specs.Packed.{view}
-use Rattle.sheet.specs.declared.Parsed.{Parsed}
+use Rattle.layout.specs.Packed.{view}
+use Rattle.layout.specs.declared.Parsed.{Parsed}
 
 pub record Searchable (p : Parsed) : Type 0 where
   pub sorted : WellSorted (view p)

@@ -1,9 +1,9 @@
 // The whole test of a list of codes: whether the terms of a sheet can have them.
+use layout::Parsed;
 use prelude::BYTE_VALUES;
 use prelude::MOST_CODES;
 use prelude::MOST_SORTS;
 use prelude::wide;
-use sheet::Parsed;
 use tables::agrees;
 use tables::cell_of;
 use tables::with_cell;
@@ -13,7 +13,7 @@ ghost use Rattle.prelude.specs.Limits.{mostCodes};
 ghost use Rattle.prelude.specs.Tests.{Decides};
 ghost use Rattle.prelude.specs.Lists.{at};
 ghost use Rattle.logic.specs.Problem.{Consistent};
-ghost use Rattle.sheet.specs.Packed.{view};
+ghost use Rattle.layout.specs.Packed.{view};
 ghost use Rattle.consistency.specs.Searchable.{Searchable, SmallSizes};
 ghost use Rattle.consistency.specs.Searchable.{Padded};
 ghost use Rattle.consistency.specs.Parts.{InRange, Hold, Functional};

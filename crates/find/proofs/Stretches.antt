@@ -9,7 +9,7 @@ use Rattle.logic.specs.Sheet.{Sheet, symbolAt}
 use Rattle.prelude.specs.Lists.{at}
 use Rattle.prelude.proofs.Lists.{sumTo-grows}
 use Rattle.logic.specs.WellFormed.{WellFormed}
-use Rattle.sheet.specs.declared.Parsed.{Parsed}
+use Rattle.layout.specs.declared.Parsed.{Parsed}
 use Rattle.tables.specs.Layout.{cells, offset}
 use Rattle.tables.specs.Parts.{Extents, Limited}
 use Rattle.tables.proofs.Whole.{packs-limited}

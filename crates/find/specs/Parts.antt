@@ -5,7 +5,7 @@ use lib.ListN.{length}
 use Rattle.logic.specs.Sheet.{Sheet}
 use Rattle.prelude.specs.Limits.{mostCodes}
 use Rattle.prelude.specs.Lists.{at}
-use Rattle.sheet.specs.declared.Parsed.{Parsed}
+use Rattle.layout.specs.declared.Parsed.{Parsed}
 use Rattle.tables.specs.Layout.{extent}
 use Rattle.tables.specs.Parts.{Packs}
 

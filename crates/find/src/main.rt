@@ -2,13 +2,13 @@
 // says on standard error when standard input cannot be read or standard output cannot be written.
 use finder::Finding;
 use finder::MOST_TABLES;
+use layout::Parsed;
 use libc::STDERR_FILENO;
 use libc::STDIN_FILENO;
 use libc::STDOUT_FILENO;
 use prelude::MOST_SYMBOLS;
 use prelude::MOST_TERMS;
 use prelude::wide;
-use sheet::Parsed;
 ghost use Prim.Native.Nat.{_≤_};
 ghost use lib.ListN.{length};
 ghost use Rattle.prelude.specs.Limits.{mostSymbols};

@@ -5,8 +5,9 @@ use mathlib.Core.List.{List}
 use lib.ListN.{length, take, drop}
 use native.Mathlib.Omega.{arith}
 use lib.Seq.{take-append-seam, drop-append-seam}
-use Rattle.finder.specs.Find.{Outcome, turnedDown, answered, outcome, finds, finding, fronted, codesIn, codesAfter, tablesIn, tablesAfter}
+use Rattle.finder.specs.Find.{Outcome, turnedDown, answered, outcome, finds, finding, codesIn, codesAfter, tablesIn, tablesAfter}
 use Rattle.finder.specs.declared.Finding.the-variants.{Refused}
+use Rattle.prelude.specs.Lists.{fronted}
 
 pub front-fronted : (new buffer : List ℕ) → take (length new) (fronted new buffer) ≡ new
 front-fronted new buffer = take-append-seam new (drop (length new) buffer)

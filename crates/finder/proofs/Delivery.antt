@@ -12,22 +12,23 @@ use Rattle.logic.specs.Sheet.{Sheet}
 use Rattle.logic.specs.WellFormed.{WellFormed}
 use Rattle.prelude.specs.Lists.{at}
 use Rattle.logic.proofs.Meaning.{length-codes}
-use Rattle.sheet.specs.Layout.{Reading, accepted, reading}
-use Rattle.sheet.proofs.Answers.{accepted-well-formed}
+use Rattle.layout.specs.Layout.{Reading, accepted, reading}
+use Rattle.layout.proofs.Answers.{accepted-well-formed}
 use Rattle.tables.specs.Layout.{extent, decoded, encoded}
 use Rattle.tables.proofs.Tables.{extent-at-ceilings, length-encoded, encoded-size, encoded-laid, extent-same}
 use Rattle.judge.specs.Judge.{judgedOf, judgement}
 use Rattle.tables.specs.declared.Judgement.the-variants.{Fits}
 use Rattle.judge.proofs.Judged.{judged-says}
-use Rattle.finder.specs.Answer.{Entry, answer, sum, structureOf, unforced}
-use Rattle.finder.specs.Find.{turnedDown, ceilings, answering, finding, codesAfter, tablesAfter}
-use Rattle.finder.specs.Demand.{Answers, Delivered, Promised, codesWritten, tablesWritten}
+use Rattle.answer.specs.Answer.{Entry, answer, sum, structureOf, unforced}
+use Rattle.finder.specs.Find.{turnedDown, answered, ceilings, answering, outcome, finding, codesAfter, tablesAfter}
+use Rattle.answer.specs.Demand.{Answers}
+use Rattle.finder.specs.Promise.{Delivered, Promised, codesWritten, tablesWritten}
 use Rattle.finder.specs.declared.Finding.the-variants.{Found, Refused}
-use Rattle.finder.proofs.Lists.{found-or-none}
-use Rattle.finder.proofs.Demand.{demand}
+use Rattle.answer.proofs.Lists.{found-or-none}
+use Rattle.answer.proofs.Demand.{demand}
 use Rattle.finder.proofs.Outcomes.{outcome-short, outcome-long}
 use Rattle.finder.proofs.Buffers.{Exit, exit, front-fronted, rest-fronted}
-use Rattle.finder.proofs.Alike.{alike-answers, alike-unreached, round-trip}
+use Rattle.answer.proofs.Coincide.{coincide-answers, coincide-unreached, round-trip}
 
 module _ (sh : Sheet) (w : WellFormed sh) (s cs ts : List ℕ) (reads : reading s ≡ accepted sh) (codesFit : length (sh .terms) ≤ length cs) (tablesFit : extent sh (ceilings sh) ≤ length ts) where
   -- what the answer makes of the call
@@ -52,11 +53,11 @@ module _ (sh : Sheet) (w : WellFormed sh) (s cs ts : List ℕ) (reads : reading 
         ∙ encoded-size (structureOf sh e) sh w i h
 
     -- the tables in front of the buffer are as long as their own sizes say
-    pub extended : extent sh (at (tablesAfter s cs ts)) ≡ length bytes
+    extended : extent sh (at (tablesAfter s cs ts)) ≡ length bytes
     extended =
         extent-same sh w (at (tablesAfter s cs ts)) (structureOf sh e .size) own-sizes ∙ sym (length-encoded (structureOf sh e) sh w)
 
-    pub tables-room : length bytes ≤ length ts
+    tables-room : length bytes ≤ length ts
     tables-room =
         omega (arith, length-encoded (structureOf sh e) sh w, extent-at-ceilings sh w (structureOf sh e .size) (given .candidate .bounded))
 
@@ -67,13 +68,13 @@ module _ (sh : Sheet) (w : WellFormed sh) (s cs ts : List ℕ) (reads : reading 
       omega (arith, extended, ap length (exits (some e) q .tables), length-append bytes (drop (length bytes) ts)),
     )
 
-    pub written : tablesWritten sh (tablesAfter s cs ts) ≡ bytes
+    written : tablesWritten sh (tablesAfter s cs ts) ≡ bytes
     written =
         ap (λ (k : ℕ). take k (tablesAfter s cs ts)) extended
         ∙ ap (take (length bytes)) (exits (some e) q .tables)
         ∙ front-fronted bytes ts
 
-    pub told : codesWritten sh (codesAfter s cs ts) ≡ e .codes
+    told : codesWritten sh (codesAfter s cs ts) ≡ e .codes
     told =
         ap (λ (k : ℕ). take k (codesAfter s cs ts)) (sym long)
         ∙ ap (take (length (e .codes))) (exits (some e) q .codes)
@@ -81,7 +82,7 @@ module _ (sh : Sheet) (w : WellFormed sh) (s cs ts : List ℕ) (reads : reading 
 
     delivered : Delivered sh (sum (e .sizes)) (codesWritten sh (codesAfter s cs ts)) (tablesWritten sh (tablesAfter s cs ts))
     delivered =
-        let g : Answers sh e (decoded sh bytes) = alike-answers sh w (structureOf sh e) (decoded sh bytes) (round-trip sh w (structureOf sh e)) e given in
+        let g : Answers sh e (decoded sh bytes) = coincide-answers sh w (structureOf sh e) (decoded sh bytes) (round-trip sh w (structureOf sh e)) e given in
         rw written
         (record {
           laid = encoded-laid (structureOf sh e) sh w (given .candidate .interprets) (λ i h. omega (arith, given .candidate .bounded .ceiling i h, w .ceiling i h .1));
@@ -91,7 +92,7 @@ module _ (sh : Sheet) (w : WellFormed sh) (s cs ts : List ℕ) (reads : reading 
           codes = told ∙ sym (g .codes);
           first = g .first;
           unreached = λ f h xs i free.
-              let r = alike-unreached sh w (structureOf sh e) (decoded sh bytes) (round-trip sh w (structureOf sh e)) (given .candidate .interprets) f h xs i free in
+              let r = coincide-unreached sh w (structureOf sh e) (decoded sh bytes) (round-trip sh w (structureOf sh e)) (given .candidate .interprets) f h xs i free in
               r .1
               ∙ demand sh w .unreached e q f xs (r .0)
               ∙ ap₂ (λ (sizes codes : List ℕ). unforced sh (record { sizes = sizes; codes = codes }) f xs) (sym (g .sizes)) (sym told);
@@ -169,15 +170,43 @@ module _ (s cs ts : List ℕ) (sh : Sheet) (n : ℕ) (reads : reading s ≡ acce
       let r : Refused 10 0 ≡ Found n = sym (exit s cs ts (turnedDown 10 0) (outcome-short s sh (length cs) (length ts) reads h) .result) ∙ found in
       let z : _≡_ {A = ℕ} 0 1 = cc in absurd (omega arith)
 
-  codes-fit : length (sh .terms) ≤ length cs
+  pub codes-fit : length (sh .terms) ≤ length cs
   codes-fit = elim (decLt (length cs) (length (sh .terms))) [ yes h ↦ absurd (not-short (inl h)) | no h ↦ omega arith ]
 
   tables-fit : extent sh (ceilings sh) ≤ length ts
   tables-fit = elim (decLt (length ts) (extent sh (ceilings sh))) [ yes h ↦ absurd (not-short (inr h)) | no h ↦ omega arith ]
 
-  -- what was found stands whole in front of the table buffer
+  formed : WellFormed sh
+  formed = accepted-well-formed s sh reads
+
+  is : (e : Entry) × (answer sh ≡ some e) × (sum (e .sizes) ≡ n)
+  is = found-is sh formed s cs ts reads codes-fit tables-fit n found
+
+  -- the entry that was found, and its sum
+  pub found-entry : Entry
+  found-entry = is .0
+
+  found-answer : answer sh ≡ some found-entry
+  unfolding found-entry
+  found-answer = is .1
+
+  pub found-sum : sum (found-entry .sizes) ≡ n
+  unfolding found-entry
+  found-sum = is .2
+
+  pub found-outcome : outcome s (length cs) (length ts) ≡ answered sh found-entry
+  found-outcome = outcome-long s sh (some found-entry) (length cs) (length ts) reads codes-fit tables-fit found-answer
+
+  -- it stands whole in front of both buffers
+  pub found-codes : codesWritten sh (codesAfter s cs ts) ≡ found-entry .codes
+  found-codes = told sh formed s cs ts reads codes-fit tables-fit found-entry found-answer
+
+  pub found-tables : tablesWritten sh (tablesAfter s cs ts) ≡ encoded (structureOf sh found-entry) sh
+  found-tables = written sh formed s cs ts reads codes-fit tables-fit found-entry found-answer
+
   pub found-whole : ((i : ℕ) → i < length (sh .bounds) → at (tablesAfter s cs ts) i ≤ 16) × (extent sh (at (tablesAfter s cs ts)) ≤ length (tablesAfter s cs ts))
-  found-whole =
-      let w : WellFormed sh = accepted-well-formed s sh reads in
-      let r : (e : Entry) × (answer sh ≡ some e) × (sum (e .sizes) ≡ n) = found-is sh w s cs ts reads codes-fit tables-fit n found in
-      whole sh w s cs ts reads codes-fit tables-fit (r .0) (r .1)
+  found-whole = whole sh formed s cs ts reads codes-fit tables-fit found-entry found-answer
+
+  pub found-room : extent sh (at (tablesAfter s cs ts)) ≤ length ts
+  found-room =
+      omega (arith, extended sh formed s cs ts reads codes-fit tables-fit found-entry found-answer, tables-room sh formed s cs ts reads codes-fit tables-fit found-entry found-answer)

@@ -1,16 +1,4 @@
-pub mod Lists
-pub mod Boxes
-pub mod Solving
-pub mod Listing
-pub mod Demand
 pub mod Outcomes
-pub mod Joint
 pub mod Buffers
-pub mod Alike
-pub mod Delivery
-pub mod Worked
-pub mod Reach
-pub mod Filling
-pub mod Writing
-pub mod Answering
 pub mod Searching
+pub mod Delivery

@@ -2,7 +2,7 @@
 use Prim.Native.Nat.{ℕ, _≤_, _<_}
 use native.Mathlib.Decide.{decLt}
 use native.Mathlib.Omega.{arith}
-use mathlib.Core.Path.{_≡_, refl, sym, _∙_}
+use mathlib.Core.Path.{_≡_, refl, sym, _∙_, ap}
 use mathlib.Core.Bool.{Bool, true, false}
 use mathlib.Core.Logic.{inl, inr}
 use mathlib.Core.List.{List}
@@ -11,26 +11,28 @@ use Rattle.logic.specs.Sheet.{Sheet, literalAt}
 use Rattle.logic.specs.WellFormed.{WellFormed}
 use Rattle.prelude.specs.Lists.{at}
 use Rattle.logic.specs.Problem.{Least, Unsatisfiable}
-use Rattle.sheet.specs.Layout.{reading}
-use Rattle.sheet.specs.Packed.{bit, parsing, view}
-use Rattle.sheet.specs.Views.{Views}
-use Rattle.sheet.specs.declared.Parsed.{Parsed}
+use Rattle.layout.specs.Layout.{reading}
+use Rattle.layout.specs.Packed.{bit, view}
+use Rattle.sheet.specs.Verdict.{parsing}
+use Rattle.layout.specs.Views.{Views}
+use Rattle.layout.specs.declared.Parsed.{Parsed}
 use Rattle.sheet.specs.declared.Parsing.{Parsing}
 use Rattle.sheet.proofs.Verdicts.{number-accepted, number-refused}
-use Rattle.sheet.proofs.Answers.{accepted-well-formed}
+use Rattle.layout.proofs.Answers.{accepted-well-formed}
 use Rattle.tables.specs.Layout.{extent}
-use Rattle.tables.specs.Parts.{Packs, Limited}
+use Rattle.tables.specs.Parts.{Packs, Limited, Extents}
 use Rattle.tables.proofs.Packing.{packs-views, symbols-packed}
 use Rattle.tables.proofs.Whole.{packs-limited}
 use Rattle.tables.proofs.Tables.{extent-monotone}
+use Rattle.tables.proofs.Offsets.{offset-same}
 use Rattle.consistency.specs.Searchable.{Searchable}
-use Rattle.finder.specs.Answer.{entryOf}
+use Rattle.answer.specs.Answer.{entryOf}
 use Rattle.finder.specs.Find.{Outcome, turnedDown, answered, outcome, finds, codesIn, tablesIn, ceilings, Finds, ReadFrom}
-use Rattle.finder.specs.Parts.{Writable}
+use Rattle.writing.specs.Written.{Writable}
 use Rattle.finder.specs.declared.Finding.{Finding}
 use Rattle.finder.specs.declared.Finding.the-variants.{Refused}
-use Rattle.finder.proofs.Outcomes.{outcome-refused, outcome-short}
-use Rattle.finder.proofs.Joint.{well-sorted, outcome-none, outcome-least}
+use Rattle.answer.proofs.Joint.{well-sorted}
+use Rattle.finder.proofs.Outcomes.{outcome-refused, outcome-short, outcome-none, outcome-least}
 use Rattle.finder.proofs.Buffers.{exit}
 
 -- a statement says same by 1 and differ by 0
@@ -126,3 +128,10 @@ module _ (p : Parsed) (q : ReadFrom p) where
           by : (i : ℕ) → Dec (i < p .terms) → c i < 16
           by i (yes h) = omega (arith, l .consistent .range i h, small (at (p .sort) i) (omega (arith, searchable .sorted .sort i h, views .sorts)))
           by i (no h) = omega (arith, l .consistent .none i (omega arith))
+
+-- the end of the tables with every size at its ceiling
+pub ceilings-extent : (p : Parsed) (offsets : List ℕ) → Extents p (at (p .ceiling)) offsets → (sh : Sheet) → Packs sh p → at offsets (p .symbols) ≡ extent sh (ceilings sh)
+ceilings-extent p offsets x sh k =
+    ap (at offsets) (symbols-packed sh p k)
+    ∙ x .offset sh k (length (sh .symbols)) (omega arith)
+    ∙ offset-same sh (k .formed) (at (p .ceiling)) (ceilings sh) (packs-views sh p k .ceiling) (length (sh .symbols)) (omega arith)

@@ -2,18 +2,19 @@
 use Prim.Native.Nat.{ℕ}
 use mathlib.Core.Path.{_≡_}
 use mathlib.Core.Bool.{Bool, true, false, _||_}
-use mathlib.Core.List.{List, _++_}
+use mathlib.Core.List.{List}
 use mathlib.Core.Option.{Option, none, some}
-use lib.ListN.{length, drop}
+use lib.ListN.{length}
 use lib.Dec.{ltb}
 use Rattle.logic.specs.Sheet.{Sheet, boundAt}
-use Rattle.sheet.specs.Layout.{Reading, accepted, refused, reading}
-use Rattle.sheet.specs.Packed.{packed}
-use Rattle.sheet.specs.declared.Parsed.{Parsed}
+use Rattle.layout.specs.Layout.{Reading, accepted, refused, reading}
+use Rattle.layout.specs.Packed.{packed}
+use Rattle.layout.specs.declared.Parsed.{Parsed}
 use Rattle.tables.specs.Layout.{extent, encoded}
-use Rattle.finder.specs.Answer.{Entry, answer, sum, structureOf}
+use Rattle.answer.specs.Answer.{Entry, answer, sum, structureOf}
 use Rattle.finder.specs.declared.Finding.{Finding}
 use Rattle.finder.specs.declared.Finding.the-variants.{Found, Refused}
+use Rattle.prelude.specs.Lists.{fronted}
 
 -- a call is turned down with a number and a place, or the sheet has an answer
 pub data Outcome : Type 0 where
@@ -51,10 +52,6 @@ finds (answered sh e) = Found (sum (e .sizes))
 
 unfoldable pub finding : List ℕ → ℕ → ℕ → Finding
 finding s codeBytes tableBytes = finds (outcome s codeBytes tableBytes)
-
--- a buffer with the answer's bytes in front; bytes behind them are untouched
-abbrev pub fronted : List ℕ → List ℕ → List ℕ
-fronted new buffer = new ++ drop (length new) buffer
 
 -- THE BUFFERS at exit, from the sheet's bytes and both buffers at entry
 abbrev pub codesIn : Outcome → List ℕ → List ℕ

@@ -1,5 +1,3 @@
-pub mod Answer
-pub mod Demand
+-- Both are the interface.
 pub mod Find
-pub mod Worked
-pub mod Parts
+pub mod Promise

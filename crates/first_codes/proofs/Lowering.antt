@@ -20,7 +20,7 @@ use Rattle.solve.proofs.Branching.{Tried}
 use Rattle.first_codes.specs.FirstCodes.{FirstCodes}
 use Rattle.first_codes.specs.Parts.{LeastAt}
 
-module _ (P : Problem) (sizes : ℕ → ℕ) (l : List ℕ) (term size word fresh : ℕ) (flags : List ℕ) (v : ℕ) (b : Branches P sizes (at l) term size word fresh flags) (t : Tried P sizes l term size word fresh flags v) where
+module _ (P : Problem) (sizes : ℕ → ℕ) (l : List ℕ) (term size mask fresh : ℕ) (flags : List ℕ) (v : ℕ) (b : Branches P sizes (at l) term size mask fresh flags) (t : Tried P sizes l term size mask fresh flags v) where
   -- where the codes below v that are worth trying are dead, no consistent extension has a code below v
   tried-least : (c : ℕ → ℕ) → Consistent P sizes c → Extends P (at l) c → v ≤ c term
   tried-least c con ext =

@@ -1,18 +1,18 @@
 // The codes that come first at given sizes.
+use layout::Parsed;
 use prelude::BYTE_VALUES;
 use prelude::MOST_CODES;
 use prelude::MOST_SORTS;
 use prelude::MOST_TERMS;
 use prelude::UNDECIDED;
 use prelude::wide;
-use sheet::Parsed;
 ghost use mathlib.Core.Bool.{true};
 ghost use mathlib.Core.Path.{_≡_};
 ghost use Prim.Native.Nat.{_<_};
 ghost use Rattle.prelude.specs.Limits.{undecided};
 ghost use Rattle.prelude.specs.Lists.{at};
 ghost use Rattle.logic.specs.Problem.{Consistent, Extends};
-ghost use Rattle.sheet.specs.Packed.{view};
+ghost use Rattle.layout.specs.Packed.{view};
 ghost use Rattle.consistency.specs.Searchable.{Searchable, SmallSizes};
 ghost use Rattle.consistency.specs.Searchable.{Padded};
 ghost use Rattle.first_codes.specs.FirstCodes.{FirstCodes};
@@ -162,14 +162,14 @@ fn lower(
         return model;
     }
     let size = n.size;
-    let word = n.word;
+    let mask = n.mask;
     let first = n.fresh;
     let flags = n.used;
     let best = renamed(p, sizes, decided, term, model, first, flags);
     let high = wide(best[term]);
     let mut v: usize = 0;
     while v < high {
-        if solve::worth(size, word, first, flags, v) {
+        if solve::worth(size, mask, first, flags, v) {
             let next = solve::decide(decided, term, v);
             let r = solve::solve(p, sizes, next, weights);
             if r.found {

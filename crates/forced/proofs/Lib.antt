@@ -1,4 +1,4 @@
 pub mod Replies
-pub mod Alike
+pub mod NoPart
 pub mod Fixed
 pub mod Worked

@@ -2,10 +2,10 @@
 use Prim.Native.Nat.{ℕ}
 use mathlib.Core.Path.{_≡_, refl}
 use mathlib.Core.List.{List, [], _∷_}
-use Rattle.sheet.specs.Layout.{cause, readFrom, reading}
+use Rattle.layout.specs.Layout.{cause, readFrom, reading}
 use Rattle.congruence.specs.Closure.{stated, round, rounds, labels}
 use Rattle.forced.specs.declared.Forcing.the-variants.{Yes, No}
-use Rattle.forced.specs.Answer.{answer}
+use Rattle.forced.specs.Forcing.{forcing}
 
 -- sheet 10, a record to a line: x same f(f(x)), x differs from f(x)
 unfoldable pub twice : List ℕ
@@ -38,11 +38,11 @@ repeatedly =
     ∷ 1 ∷ 0 ∷ 6 ∷ 0 ∷ 16 ∷ []
 
 -- f need not give back x, but f of f does
-pub answers-twice : (answer twice 0 1 ≡ No) × (answer twice 0 2 ≡ Yes)
-unfolding twice answer reading readFrom cause labels rounds round stated
+pub answers-twice : (forcing twice 0 1 ≡ No) × (forcing twice 0 2 ≡ Yes)
+unfolding twice forcing reading readFrom cause labels rounds round stated
 answers-twice = (refl, refl)
 
 -- f gives back x; one round is not enough to see it
-pub answers-repeatedly : answer repeatedly 0 1 ≡ Yes
-unfolding repeatedly answer reading readFrom cause labels rounds round stated
+pub answers-repeatedly : forcing repeatedly 0 1 ≡ Yes
+unfolding repeatedly forcing reading readFrom cause labels rounds round stated
 answers-repeatedly = refl

@@ -2,7 +2,7 @@
 use congruence::groups;
 use sheet::parse;
 ghost use mathlib.Core.Path.{_≡_};
-ghost use Rattle.forced.specs.Answer.{answer};
+ghost use Rattle.forced.specs.Forcing.{forcing};
 
 // The answer; a refusal has the number and the place of docs/FORMAT.md, "Refusals".
 pub enum Forcing {
@@ -13,7 +13,7 @@ pub enum Forcing {
 
 // Whether the terms a and b of a sheet are forced together.
 pub fn forced(sheet: &[u8], a: usize, b: usize) -> Forcing
-    ensures { λ r. ⌜ r ≡ answer (now (sheet .entry)) a b ⌝ }
+    ensures { λ r. ⌜ r ≡ forcing (now (sheet .entry)) a b ⌝ }
 {
     let read = parse(sheet);
     if read.number != 0 {

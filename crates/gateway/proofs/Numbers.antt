@@ -6,14 +6,14 @@ use mathlib.Core.Path.{_≡_, refl}
 use mathlib.Core.Bool.{Bool, true, false}
 use mathlib.Core.List.{List}
 use lib.ListN.{length}
-use Rattle.sheet.specs.Layout.{Reading, accepted, refused, reading}
-use Rattle.sheet.proofs.Answers.{refused-place, accepted-well-formed}
-use Rattle.sheet.proofs.Records.{reading-long}
+use Rattle.layout.specs.Layout.{Reading, accepted, refused, reading}
+use Rattle.layout.proofs.Answers.{refused-place, accepted-well-formed}
+use Rattle.layout.proofs.Records.{reading-long}
 use mathlib.Core.Option.{Option, none, some}
 use Rattle.logic.specs.Sheet.{Sheet}
-use Rattle.finder.specs.Answer.{Entry, answer, sum}
+use Rattle.answer.specs.Answer.{Entry, answer, sum}
 use Rattle.finder.specs.Find.{Outcome, turnedDown, answering, consider, short, outcome, finds, finding}
-use Rattle.finder.proofs.Demand.{accepted-demand}
+use Rattle.answer.proofs.Demand.{accepted-demand}
 use Rattle.finder.specs.declared.Finding.the-variants as found
 use Rattle.judge.specs.Judge.{judgement, judgedOf}
 use Rattle.judge.proofs.Judged.{judged-says}

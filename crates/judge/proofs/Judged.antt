@@ -3,17 +3,16 @@ use Prim.Native.Nat.{ℕ, _+_, _≤_}
 use native.Mathlib.Decide.{decLt}
 use native.Mathlib.Omega.{arith}
 use mathlib.Core.Path.{_≡_, refl, ap, ap₂, sym, _∙_, subst}
-use mathlib.Core.Bool.{Bool, true, false}
+use mathlib.Core.Bool.{Bool, true, false, cond}
 use mathlib.Core.Logic.{_⊎_, inl, inr, _↔_}
 use mathlib.Core.List.{List}
 use lib.ListN.{length}
-use Rattle.logic.specs.Sheet.{Sheet, Literal, literalAt}
-use Rattle.prelude.specs.Tests.{if}
+use Rattle.logic.specs.Sheet.{Sheet, literalAt, noLiteral}
 use Rattle.prelude.specs.Lists.{at}
 use Rattle.prelude.proofs.Tests.{decided, true-not-false}
 use Rattle.logic.specs.Structure.{code, Bounded}
-use Rattle.sheet.specs.Layout.{Reading, accepted, refused, reading}
-use Rattle.sheet.proofs.Answers.{refused-number}
+use Rattle.layout.specs.Layout.{Reading, accepted, refused, reading}
+use Rattle.layout.proofs.Answers.{refused-number}
 use Rattle.tables.specs.declared.Judgement.{Judgement}
 use Rattle.tables.specs.declared.Judgement.the-variants.{Fits, OutOfBounds, Broken, Refused}
 use Rattle.tables.specs.Layout.{decoded, WellLaid}
@@ -27,29 +26,25 @@ module _ (sh : Sheet) (t : List ℕ) where
   abbrev given : ℕ → ℕ
   given = code (decoded sh t) sh
 
-  literal₀ : Literal
-  literal₀ = record { equal = true; left = 0; right = 0 }
-
   -- of tables that are well laid and in bounds, the first broken statement is named
   says-statements : WellLaid sh t → Bounded sh (at t) → Says sh t (statements given 0 (sh .literals))
-  unfolding literal₀
   says-statements w b =
       elim (first-failing (length (sh .literals)) (λ k. holds given (literalAt sh k))) [
         | inl all ↦
-            subst (Says sh t) (sym (statements-fit given literal₀ 0 (sh .literals) all))
+            subst (Says sh t) (sym (statements-fit given noLiteral 0 (sh .literals) all))
             (w, record { interprets = laid-interprets sh t w; bounded = b }, λ k h. holds-true given (literalAt sh k) (all k h))
         | inr f ↦
             let k = f .0 in
             let z : 0 + k ≡ k = omega arith in
-            let e : statements given 0 (sh .literals) ≡ Broken k = statements-broken given literal₀ 0 (sh .literals) k (f .1) (f .2) (f .3) ∙ ap Broken z in
+            let e : statements given 0 (sh .literals) ≡ Broken k = statements-broken given noLiteral 0 (sh .literals) k (f .1) (f .2) (f .3) ∙ ap Broken z in
             subst (Says sh t) (sym e)
             (w, b, f .1, λ j h. holds-true given (literalAt sh j) (f .2 j h), holds-false given (literalAt sh k) (f .3))
       ]
 
   -- the reply by the two tests
-  pub judged-by : (a b : Bool) → wellLaid sh t ≡ a → inBounds sh (at t) ≡ b → judged sh t ≡ if a (if b (statements given 0 (sh .literals)) OutOfBounds) (Refused 12 0)
+  pub judged-by : (a b : Bool) → wellLaid sh t ≡ a → inBounds sh (at t) ≡ b → judged sh t ≡ cond a (cond b (statements given 0 (sh .literals)) OutOfBounds) (Refused 12 0)
   unfolding judged
-  judged-by a b e f = ap₂ (λ (x y : Bool). if x (if y (statements given 0 (sh .literals)) OutOfBounds) (Refused 12 0)) e f
+  judged-by a b e f = ap₂ (λ (x y : Bool). cond x (cond y (statements given 0 (sh .literals)) OutOfBounds) (Refused 12 0)) e f
 
   -- the reply is true
   pub says-judged : Says sh t (judged sh t)

@@ -6,10 +6,11 @@ use mathlib.Core.Path.{_≡_, refl, sym, _∙_, subst}
 use mathlib.Core.List.{List}
 use lib.ListN.{length}
 use Rattle.logic.specs.Sheet.{Sheet}
-use Rattle.sheet.specs.Layout.{reading, empty}
-use Rattle.sheet.specs.Packed.{packed, parsing}
+use Rattle.layout.specs.Layout.{reading, empty}
+use Rattle.layout.specs.Packed.{packed}
+use Rattle.sheet.specs.Verdict.{parsing}
 use Rattle.sheet.specs.declared.Parsing.{Parsing}
-use Rattle.sheet.proofs.Answers.{accepted-well-formed}
+use Rattle.layout.proofs.Answers.{accepted-well-formed}
 use Rattle.sheet.proofs.Verdicts.{Accepts, number-accepted, number-refused}
 use Rattle.tables.specs.declared.Judgement.{Judgement}
 use Rattle.tables.specs.declared.Judgement.the-variants.{Refused}

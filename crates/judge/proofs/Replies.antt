@@ -14,7 +14,7 @@ use Rattle.prelude.specs.Lists.{at}
 use Rattle.prelude.proofs.Tests.{decided}
 use Rattle.prelude.proofs.Lists.{sumTo-grows}
 use Rattle.logic.specs.Structure.{code}
-use Rattle.sheet.specs.declared.Parsed.{Parsed}
+use Rattle.layout.specs.declared.Parsed.{Parsed}
 use Rattle.tables.specs.declared.Judgement.the-variants.{OutOfBounds, Refused}
 use Rattle.tables.specs.Layout.{cells, decoded}
 use Rattle.tables.specs.Tests.{wellLaid, inBounds, statements}

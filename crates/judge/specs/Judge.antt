@@ -2,13 +2,13 @@
 use Prim.Native.Nat.{ℕ, _+_, _<_}
 use mathlib.Core.Path.{_≡_}
 use mathlib.Core.List.{List}
+use mathlib.Core.Bool.{cond}
 use lib.ListN.{length, take, drop}
 use lib.Dec.{ltb}
 use Rattle.logic.specs.Sheet.{Sheet, symbolAt, literalAt}
-use Rattle.prelude.specs.Tests.{if}
 use Rattle.prelude.specs.Lists.{at}
 use Rattle.logic.specs.Structure.{code, Holds, Satisfies, Bounded, Candidate}
-use Rattle.sheet.specs.Layout.{Reading, accepted, refused, reading}
+use Rattle.layout.specs.Layout.{Reading, accepted, refused, reading}
 use Rattle.tables.specs.Layout.{cells, offset, decoded, WellLaid}
 use Rattle.tables.specs.Tests.{wellLaid, inBounds, statements}
 use Rattle.tables.specs.declared.Judgement.{Judgement}
@@ -17,8 +17,8 @@ use Rattle.tables.specs.declared.Judgement.the-variants.{Fits, OutOfBounds, Bro
 -- Judge, of an accepted sheet: cause 12 first, then the bounds, then the statements in their order.
 unfoldable pub judged : Sheet → List ℕ → Judgement
 judged sh t =
-    if (wellLaid sh t)
-    (if (inBounds sh (at t)) (statements (code (decoded sh t) sh) 0 (sh .literals)) OutOfBounds)
+    cond (wellLaid sh t)
+    (cond (inBounds sh (at t)) (statements (code (decoded sh t) sh) 0 (sh .literals)) OutOfBounds)
     (Refused 12 0)
 
 -- What each reply says of the tables; `judged-says` of proofs/Judged.antt is the theorem that judge gives the reply that is true.
@@ -57,8 +57,8 @@ nowhere = record { start = 0; many = 0 }
 -- Table of a name, of an accepted sheet: nowhere for cause 12, and for cause 13, a number that no symbol has.
 unfoldable pub stretchOf : Sheet → List ℕ → ℕ → Stretch
 stretchOf sh t f =
-    if (wellLaid sh t)
-    (if (ltb f (length (sh .symbols)))
+    cond (wellLaid sh t)
+    (cond (ltb f (length (sh .symbols)))
     (record { start = offset sh (at t) f; many = cells (at t) (symbolAt sh f .params) })
     nowhere)
     nowhere

@@ -1,5 +1,5 @@
 // The questions "judge" and "table of a name" (the table of a symbol), on the bytes of a sheet and of tables.
-use sheet::Parsed;
+use layout::Parsed;
 use tables::Judgement;
 ghost use Prim.Native.Nat.{_+_, _≤_};
 ghost use mathlib.Core.Path.{_≡_};

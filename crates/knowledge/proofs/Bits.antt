@@ -1,4 +1,4 @@
--- The bits of a word: what a union, a single bit and the words of 16 codes hold. Words of 16 codes go by one computed test each.
+-- The bits of a mask: what a union, a single bit and the masks of 16 codes hold. Masks of 16 codes go by one computed test each.
 use Prim.Native.Nat.{ℕ, zero, suc, _+_, _-_, _*_, _/_, _%_, _^_, _≤_, _<_}
 use mathlib.Core.Path.{_≡_, refl, ap, _∙_}
 use mathlib.Core.Bool.{Bool, true, false, _||_}
@@ -63,7 +63,7 @@ bit-pow k v h =
 pub shl-one : (k w : ℕ) → k < w → (1 * 2 ^ k) % 2 ^ w ≡ 2 ^ k
 shl-one k w h = shl-exact {a = 1} 1 k w (omega arith) (omega arith) ∙ one-mul (2 ^ k)
 
--- nothing is in an empty word
+-- nothing is in an empty mask
 pub bit-none : (v : ℕ) → Bit 0 v → ⊥
 bit-none v h =
     let z : 0 / 2 ^ v % 2 ≡ 0 = rw zero-div (zero-mod 2) in
@@ -73,7 +73,7 @@ or-cases : (a b : Bool) → (a || b) ≡ true → (a ≡ true) ⊎ (b ≡ true)
 or-cases true b e = inl refl
 or-cases false b e = inr e
 
--- a word with all 16 bits strikes out every code
+-- a mask with all 16 bits strikes out every code
 pub bit-full : (u : ℕ) → u < 16 → Bit 65535 u
 bit-full u h = eqb-true (65535 / 2 ^ u % 2) 1 (every-true 16 (λ n. eqb (65535 / 2 ^ n % 2) 1) refl u h)
 

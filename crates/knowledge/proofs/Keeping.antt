@@ -8,7 +8,7 @@ use lib.ListN.{set}
 use lib.Bits.{bitOr}
 use Rattle.prelude.specs.Lists.{at}
 use Rattle.prelude.proofs.Lists.{at-set}
-use Rattle.knowledge.specs.Knows.{Bit, Labels, Words, Marks, Knows, SmallCodes, Same, Differ, Means, Kept}
+use Rattle.knowledge.specs.Knows.{Bit, Labels, Masks, Marks, Knows, SmallCodes, Same, Differ, Means, Kept}
 use Rattle.knowledge.proofs.Bits.{bit-or, bit-pow, bit-full}
 
 -- nothing changes
@@ -28,13 +28,13 @@ step-from p f q = chain p (step f q)
 -- what changes one of the three arrays
 module _ {If : (ℕ → ℕ) → Type 0} {l w m : List ℕ} where
   pub in-labels : {l′ : List ℕ} → Kept If (Labels l) (Labels l′) → Kept If (Knows l w m) (Knows l′ w m)
-  in-labels q = record { kept = λ c i a. record { labels = q .kept c i (a .labels); words = a .words; marks = a .marks } }
+  in-labels q = record { kept = λ c i a. record { labels = q .kept c i (a .labels); masks = a .masks; marks = a .marks } }
 
-  pub in-words : {w′ : List ℕ} → Kept If (Words w) (Words w′) → Kept If (Knows l w m) (Knows l w′ m)
-  in-words q = record { kept = λ c i a. record { labels = a .labels; words = q .kept c i (a .words); marks = a .marks } }
+  pub in-masks : {w′ : List ℕ} → Kept If (Masks w) (Masks w′) → Kept If (Knows l w m) (Knows l w′ m)
+  in-masks q = record { kept = λ c i a. record { labels = a .labels; masks = q .kept c i (a .masks); marks = a .marks } }
 
   pub in-marks : {m′ : List ℕ} → Kept If (Marks m) (Marks m′) → Kept If (Knows l w m) (Knows l w m′)
-  in-marks q = record { kept = λ c i a. record { labels = a .labels; words = a .words; marks = q .kept c i (a .marks) } }
+  in-marks q = record { kept = λ c i a. record { labels = a .labels; masks = a .masks; marks = q .kept c i (a .marks) } }
 
 -- a store of the label of a term of the same code
 pub labels-set : (l : List ℕ) (k x : ℕ) → Kept (Same x k) (Labels l) (Labels (set l k x))
@@ -44,9 +44,9 @@ labels-set l k x =
           elim (at-set l k x i) [ inl e ↦ ap c e ∙ h i hi | inr e ↦ ap c (e .1) ∙ s ∙ ap c (sym (e .0)) ];
     }
 
--- the codes of s go into a word in which the term's code is not
-pub words-set : (w : List ℕ) (k s : ℕ) → Kept (λ c. Bit s (c k) → ⊥) (Words w) (Words (set w k (bitOr (at w k) s)))
-words-set w k s =
+-- the codes of s go into a mask in which the term's code is not
+pub masks-set : (w : List ℕ) (k s : ℕ) → Kept (λ c. Bit s (c k) → ⊥) (Masks w) (Masks (set w k (bitOr (at w k) s)))
+masks-set w k s =
     record {
       kept = λ c d h i b.
           elim (at-set w k (bitOr (at w k) s) i) [
@@ -94,7 +94,7 @@ marks-put m a b s hb hs =
 pub differ-sym : (a b : ℕ) (c : ℕ → ℕ) → Differ a b c → Differ b a c
 differ-sym a b c d e = d (sym e)
 
--- no code is left to two terms whose words together strike out all of them
-pub words-apart : (x y a b : ℕ) → bitOr x y ≡ 65535 → (c : ℕ → ℕ) → SmallCodes c → (Bit x (c a) → ⊥) → (Bit y (c b) → ⊥) → Differ a b c
-words-apart x y a b full c s p q e =
+-- no code is left to two terms whose masks together strike out all of them
+pub masks-apart : (x y a b : ℕ) → bitOr x y ≡ 65535 → (c : ℕ → ℕ) → SmallCodes c → (Bit x (c a) → ⊥) → (Bit y (c b) → ⊥) → Differ a b c
+masks-apart x y a b full c s p q e =
     elim (bit-or x y (c a) (rw full (bit-full (c a) (s a)))) [ inl g ↦ p g | inr g ↦ q (rw e at g) ]

@@ -1,4 +1,4 @@
-// The knowledge that propagation gathers about terms: labels of groups, words of struck codes, marks of different pairs.
+// The knowledge that propagation gathers about terms: labels of groups, masks of struck codes, marks of different pairs.
 // Each function adds knowledge, and promises that what was true of an assignment of codes stays true of it.
 use prelude::MOST_CODES;
 use prelude::MOST_TERMS;
@@ -7,14 +7,14 @@ ghost use mathlib.Core.Path.{_≡_};
 ghost use mathlib.Core.Bool.{true};
 ghost use Prim.Native.Nat.{_≤_, _<_};
 ghost use Rattle.prelude.specs.Limits.{mostTerms, mostCodes};
-ghost use Rattle.knowledge.specs.Knows.{Bit, Labels, Words, Marks, Knows, SmallCodes, Same, Differ, Means, Kept, Single};
+ghost use Rattle.knowledge.specs.Knows.{Bit, Labels, Masks, Marks, Knows, SmallCodes, Same, Differ, Means, Kept, Single};
 
-// Marks are a row of bits for each term, two words of 64 bits to a row: bit j of row i is set where the codes of i and j differ.
-pub const WORD_BITS: usize = 64;
+// Marks are a row of bits for each term, two halves of 64 bits to a row: bit j of row i is set where the codes of i and j differ.
+pub const HALF_BITS: usize = 64;
 
-pub const MARK_WORDS: usize = 2 * MOST_TERMS;
+pub const MARK_HALVES: usize = 2 * MOST_TERMS;
 
-// The word in which all codes are struck out.
+// The mask in which all codes are struck out.
 pub const NO_CODE_LEFT: u16 = 65535;
 
 // The label of a term; a number past the terms is its own label.
@@ -25,7 +25,7 @@ pub fn label(labels: &[u8; MOST_TERMS], i: usize) -> usize
 }
 
 // Whether two terms are marked as different.
-pub fn marked(marks: &[u64; MARK_WORDS], a: usize, b: usize) -> bool
+pub fn marked(marks: &[u64; MARK_HALVES], a: usize, b: usize) -> bool
     ensures { λ r. ⌜ (r ≡ true → Means (Marks (now (marks .entry))) (Differ a b)) ⌝ }
 {
     if MOST_TERMS <= a {
@@ -34,12 +34,12 @@ pub fn marked(marks: &[u64; MARK_WORDS], a: usize, b: usize) -> bool
     if MOST_TERMS <= b {
         return false;
     }
-    let x = 2 * a + b / WORD_BITS;
-    (marks[x] >> (b % WORD_BITS)) % 2 == 1
+    let x = 2 * a + b / HALF_BITS;
+    (marks[x] >> (b % HALF_BITS)) % 2 == 1
 }
 
 // Marks two terms as different; says whether that is news.
-pub fn mark(marks: &mut [u64; MARK_WORDS], a: usize, b: usize) -> bool
+pub fn mark(marks: &mut [u64; MARK_HALVES], a: usize, b: usize) -> bool
     ensures { λ _. ⌜ Kept (Differ a b) (Marks (now (marks .entry))) (Marks (now (marks .exit))) ⌝ }
 {
     if marked(marks, a, b) {
@@ -50,27 +50,27 @@ pub fn mark(marks: &mut [u64; MARK_WORDS], a: usize, b: usize) -> bool
     true
 }
 
-// Strikes out the codes of a word s in the word of a term; says whether that is news.
-pub fn strike(words: &mut [u16; MOST_TERMS], i: usize, s: u16) -> bool
-    ensures { λ _. ⌜ Kept (λ c. Bit s (c i) → ⊥) (Words (now (words .entry))) (Words (now (words .exit))) ⌝ }
+// Strikes out the codes of a mask s in the mask of a term; says whether that is news.
+pub fn strike(masks: &mut [u16; MOST_TERMS], i: usize, s: u16) -> bool
+    ensures { λ _. ⌜ Kept (λ c. Bit s (c i) → ⊥) (Masks (now (masks .entry))) (Masks (now (masks .exit))) ⌝ }
 {
     if i < MOST_TERMS {
-        let old = words[i];
-        words[i] = old | s;
+        let old = masks[i];
+        masks[i] = old | s;
         (old | s) != old
     } else {
         false
     }
 }
 
-// The word of a term; a number past the terms has nothing struck out.
-pub fn word(words: &[u16; MOST_TERMS], i: usize) -> u16
-    ensures { λ r. ⌜ Means (Words (now (words .entry))) (λ c. Bit r (c i) → ⊥) ⌝ }
+// The mask of a term; a number past the terms has nothing struck out.
+pub fn mask(masks: &[u16; MOST_TERMS], i: usize) -> u16
+    ensures { λ r. ⌜ Means (Masks (now (masks .entry))) (λ c. Bit r (c i) → ⊥) ⌝ }
 {
-    if i < MOST_TERMS { words[i] } else { 0 }
+    if i < MOST_TERMS { masks[i] } else { 0 }
 }
 
-// The number of the lowest bit of a word.
+// The number of the lowest bit of a mask.
 pub fn lowest(w: u64) -> usize
     ensures { λ r. ⌜ r ≤ 64 ⌝ }
 {
@@ -80,27 +80,27 @@ pub fn lowest(w: u64) -> usize
 // Joins the groups of two terms, the lower label staying; says whether that is news.
 pub fn join(
     labels: &mut [u8; MOST_TERMS],
-    words: &mut [u16; MOST_TERMS],
-    marks: &mut [u64; MARK_WORDS],
+    masks: &mut [u16; MOST_TERMS],
+    marks: &mut [u64; MARK_HALVES],
     i: usize,
     j: usize,
 ) -> bool
-    ensures { λ _. ⌜ Kept (Same i j) (Knows (now (labels .entry)) (now (words .entry)) (now (marks .entry))) (Knows (now (labels .exit)) (now (words .exit)) (now (marks .exit))) ⌝ }
+    ensures { λ _. ⌜ Kept (Same i j) (Knows (now (labels .entry)) (now (masks .entry)) (now (marks .entry))) (Knows (now (labels .exit)) (now (masks .exit)) (now (marks .exit))) ⌝ }
 {
     let a = label(labels, i);
     let b = label(labels, j);
     if a < b {
-        merge(labels, words, marks, a, b);
+        merge(labels, masks, marks, a, b);
         return true;
     }
     if b < a {
-        merge(labels, words, marks, b, a);
+        merge(labels, masks, marks, b, a);
         return true;
     }
     false
 }
 
-// The one code that is left in a word, MOST_CODES where there are more or none.
+// The one code that is left in a mask, MOST_CODES where there are more or none.
 pub fn single(w: u16) -> usize
     ensures { λ r. ⌜ (r < mostCodes → Single w r) ⌝ }
 {
@@ -115,21 +115,21 @@ pub fn single(w: u16) -> usize
 
 // Whether two terms are known to differ: they are marked, or no code is left to both.
 pub fn apart<'a>(
-    words: &'a [u16; MOST_TERMS],
-    marks: &'a [u64; MARK_WORDS],
+    masks: &'a [u16; MOST_TERMS],
+    marks: &'a [u64; MARK_HALVES],
     a: usize,
     b: usize,
 ) -> bool
-    ensures { λ r. ⌜ (r ≡ true → Means (λ c. SmallCodes c × (Words (now (words .entry)) c × Marks (now (marks .entry)) c)) (Differ a b)) ⌝ }
+    ensures { λ r. ⌜ (r ≡ true → Means (λ c. SmallCodes c × (Masks (now (masks .entry)) c × Marks (now (marks .entry)) c)) (Differ a b)) ⌝ }
 {
     if marked(marks, a, b) {
         return true;
     }
-    (word(words, a) | word(words, b)) == NO_CODE_LEFT
+    (mask(masks, a) | mask(masks, b)) == NO_CODE_LEFT
 }
 
 // The bit of column b in row a.
-fn mark_one(marks: &mut [u64; MARK_WORDS], a: usize, b: usize)
+fn mark_one(marks: &mut [u64; MARK_HALVES], a: usize, b: usize)
     ensures { λ _. ⌜ Kept (Differ a b) (Marks (now (marks .entry))) (Marks (now (marks .exit))) ⌝ }
 {
     if MOST_TERMS <= a {
@@ -138,8 +138,8 @@ fn mark_one(marks: &mut [u64; MARK_WORDS], a: usize, b: usize)
     if MOST_TERMS <= b {
         return;
     }
-    let x = 2 * a + b / WORD_BITS;
-    marks[x] = marks[x] | (1u64 << (b % WORD_BITS));
+    let x = 2 * a + b / HALF_BITS;
+    marks[x] = marks[x] | (1u64 << (b % HALF_BITS));
 }
 
 // The label of a group that has been joined to group a.
@@ -161,7 +161,7 @@ fn relabel(labels: &mut [u8; MOST_TERMS], a: u8, b: u8)
 }
 
 // Marks k against a if it is marked against b.
-fn unite_one(marks: &mut [u64; MARK_WORDS], a: usize, b: usize, k: usize)
+fn unite_one(marks: &mut [u64; MARK_HALVES], a: usize, b: usize, k: usize)
     ensures { λ _. ⌜ Kept (Same a b) (Marks (now (marks .entry))) (Marks (now (marks .exit))) ⌝ }
 {
     if marked(marks, b, k) {
@@ -170,26 +170,26 @@ fn unite_one(marks: &mut [u64; MARK_WORDS], a: usize, b: usize, k: usize)
 }
 
 // Marks against a what is marked against b, in one half of the row.
-fn unite_half(marks: &mut [u64; MARK_WORDS], a: usize, b: usize, half: usize)
+fn unite_half(marks: &mut [u64; MARK_HALVES], a: usize, b: usize, half: usize)
     requires { ⌜ (b < mostTerms) × (half < 2) ⌝ }
     ensures { λ _. ⌜ Kept (Same a b) (Marks (now (marks .entry))) (Marks (now (marks .exit))) ⌝ }
 {
     let mut rest: u64 = marks[2 * b + half];
     while 0 < rest {
-        unite_one(marks, a, b, half * WORD_BITS + lowest(rest));
+        unite_one(marks, a, b, half * HALF_BITS + lowest(rest));
         rest = rest & (rest - 1);
     }
 }
 
-// Joins group b to group a: one label, both words, both rows of marks.
+// Joins group b to group a: one label, both masks, both rows of marks.
 fn merge(
     labels: &mut [u8; MOST_TERMS],
-    words: &mut [u16; MOST_TERMS],
-    marks: &mut [u64; MARK_WORDS],
+    masks: &mut [u16; MOST_TERMS],
+    marks: &mut [u64; MARK_HALVES],
     a: usize,
     b: usize,
 )
-    ensures { λ _. ⌜ Kept (Same a b) (Knows (now (labels .entry)) (now (words .entry)) (now (marks .entry))) (Knows (now (labels .exit)) (now (words .exit)) (now (marks .exit))) ⌝ }
+    ensures { λ _. ⌜ Kept (Same a b) (Knows (now (labels .entry)) (now (masks .entry)) (now (marks .entry))) (Knows (now (labels .exit)) (now (masks .exit)) (now (marks .exit))) ⌝ }
 {
     if MOST_TERMS <= a {
         return;
@@ -198,8 +198,8 @@ fn merge(
         return;
     }
     relabel(labels, a as u8, b as u8);
-    let s = words[b];
-    strike(words, a, s);
+    let s = masks[b];
+    strike(masks, a, s);
     unite_half(marks, a, b, 0);
     unite_half(marks, a, b, 1);
 }

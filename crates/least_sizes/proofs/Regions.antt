@@ -12,7 +12,7 @@ use native.Mathlib.Nat.{le-refl, ne-of-lt, ne-of-gt}
 use borrow.Author.Count.{below-more}
 use Rattle.prelude.specs.Limits.{undecided}
 use Rattle.prelude.specs.Lists.{at, sumTo}
-use Rattle.prelude.proofs.Lists.{at-set, at-set-same, at-set-other, sumTo-monotone}
+use Rattle.prelude.proofs.Lists.{at-set-same, at-set-other, sumTo-monotone}
 use Rattle.logic.specs.Order.{NotAfter}
 use Rattle.logic.specs.Problem.{Problem, WellSorted, Allowed}
 use Rattle.logic.proofs.Consistent.{larger-sizes}
@@ -117,9 +117,6 @@ set-below n l i v w h j hj =
   where
     out : (i < length l → ⊥) → at (set l i v) j ≤ at (set l i w) j
     out x = rw (set-out l i v (omega arith), set-out l i w (omega arith)) (le-refl (at l j))
-
-pub set-small : (n : ℕ) (l : List ℕ) (i v m : ℕ) → v ≤ m → ((s : ℕ) → s < n → at l s ≤ m) → (s : ℕ) → s < n → at (set l i v) s ≤ m
-set-small n l i v m h b s hs = elim (at-set l i v s) [ inl e ↦ let x = b s hs in omega arith | inr e ↦ let x = e .1 in omega arith ]
 
 -- ---- answers
 pub compared-yes : (n : ℕ) (f g : ℕ → ℕ) → SizesNoLater n f g → Compared n true f g

@@ -1,10 +1,10 @@
 // The least sizes with consistent codes: smallest sum, then first place by place.
+use layout::Parsed;
 use prelude::BYTE_VALUES;
 use prelude::MOST_SORTS;
 use prelude::MOST_TERMS;
 use prelude::UNDECIDED;
 use prelude::wide;
-use sheet::Parsed;
 use tables::sum_of;
 ghost use mathlib.Core.Bool.{true};
 ghost use mathlib.Core.Path.{_≡_};
@@ -12,7 +12,7 @@ ghost use Prim.Native.Nat.{_+_, _≤_, _<_};
 ghost use lib.ListN.{length, set};
 ghost use Rattle.prelude.specs.Limits.{mostSorts, mostCodes};
 ghost use Rattle.prelude.specs.Lists.{at};
-ghost use Rattle.sheet.specs.Packed.{view};
+ghost use Rattle.layout.specs.Packed.{view};
 ghost use Rattle.consistency.specs.Searchable.{Searchable, SmallSizes};
 ghost use Rattle.least_sizes.specs.LeastSizes.{LeastSizes};
 ghost use Rattle.least_sizes.specs.Parts.{Probed, Barren, Edge, Compared, GreatestSizes, Raised, Region, Contender, Hunted, Looked, Inside, Corner};

@@ -2,12 +2,11 @@
 -- keeps them.
 use Prim.Native.Nat.{ℕ, _≤_, _<_}
 use mathlib.Core.Path.{_≡_, refl, sym, ap, subst, fun-ext, _∙_}
-use mathlib.Core.Bool.{Bool, true, false, _&&_, false≢true}
+use mathlib.Core.Bool.{Bool, true, false, _&&_, false≢true, cond}
 use native.Mathlib.Omega.{arith}
 use native.Mathlib.Decide.{decLt}
 use lib.Dec.{ltb, eqb}
 use borrow.Author.Tests.{lt-ltb, le-ltb, eqb-true, eqb-false, eq-eqb, ne-eqb}
-use Rattle.prelude.specs.Tests.{if}
 use Rattle.logic.specs.Problem.{Problem, WellSorted, Consistent, Extends}
 
 module _ (P : Problem) where
@@ -39,7 +38,7 @@ Unused P q s v = (j : ℕ) → j < P .terms → P .sort j ≡ s → q j ≡ v �
 
 -- u and v change places
 abbrev exchange : ℕ → ℕ → ℕ → ℕ
-exchange u v x = if (eqb x u) v (if (eqb x v) u x)
+exchange u v x = cond (eqb x u) v (cond (eqb x v) u x)
 
 exchange-first : (u v : ℕ) → exchange u v u ≡ v
 exchange-first u v = rw (eq-eqb u u refl)
@@ -67,16 +66,16 @@ exchange-twice u v x = go (eqb x u) refl (eqb x v) refl
 exchange-below : (u v x n : ℕ) → u < n → v < n → x < n → exchange u v x < n
 exchange-below u v x n a b c = go (eqb x u) (eqb x v)
   where
-    go : (s t : Bool) → if s v (if t u x) < n
+    go : (s t : Bool) → cond s v (cond t u x) < n
     go true t = b
     go false true = a
     go false false = c
 
--- two uses of if with one test are equal exactly when their arguments are
-choice-same : (u v a b : ℕ) (s t : Bool) → s ≡ t → a ≡ b → if s (exchange u v a) a ≡ if t (exchange u v b) b
+-- two choices by one test are equal exactly when their arguments are
+choice-same : (u v a b : ℕ) (s t : Bool) → s ≡ t → a ≡ b → cond s (exchange u v a) a ≡ cond t (exchange u v b) b
 choice-same u v a b s t e h = rw (e, h)
 
-choice-back : (u v a b : ℕ) (s t : Bool) → s ≡ t → if s (exchange u v a) a ≡ if t (exchange u v b) b → a ≡ b
+choice-back : (u v a b : ℕ) (s t : Bool) → s ≡ t → cond s (exchange u v a) a ≡ cond t (exchange u v b) b → a ≡ b
 choice-back u v a b true true e h = sym (exchange-twice u v a) ∙ ap (exchange u v) h ∙ exchange-twice u v b
 choice-back u v a b true false e h = absurd (false≢true (sym e))
 choice-back u v a b false true e h = absurd (false≢true e)
@@ -89,7 +88,7 @@ module _ (P : Problem) (s u v : ℕ) where
 
   -- the codes with u and v swapped in sort s
   unfoldable pub swapped : (ℕ → ℕ) → ℕ → ℕ
-  swapped c i = if (member i) (exchange u v (c i)) (c i)
+  swapped c i = cond (member i) (exchange u v (c i)) (c i)
 
   member-out : (i : ℕ) → P .terms ≤ i → member i ≡ false
   member-out i h = rw (le-ltb i (P .terms) h)
@@ -123,7 +122,7 @@ module _ (P : Problem) (s u v : ℕ) where
     unfolding swapped
     swapped-range i h = go (eqb (P .sort i) s) refl
       where
-        go : (b : Bool) → eqb (P .sort i) s ≡ b → if (member i) (exchange u v (c i)) (c i) < size (P .sort i)
+        go : (b : Bool) → eqb (P .sort i) s ≡ b → cond (member i) (exchange u v (c i)) (c i) < size (P .sort i)
         go true e =
             let f = eqb-true (P .sort i) s e in
             rw (member-in i h, e) (rw f (exchange-below u v (c i) (size s) lu lv (rw f at (k .range i h))))
@@ -161,7 +160,7 @@ module _ (P : Problem) (s u v : ℕ) where
   unfolding swapped
   swapped-extends q c nu nv x i h d = go (eqb (P .sort i) s) refl
     where
-      go : (b : Bool) → eqb (P .sort i) s ≡ b → if (member i) (exchange u v (c i)) (c i) ≡ q i
+      go : (b : Bool) → eqb (P .sort i) s ≡ b → cond (member i) (exchange u v (c i)) (c i) ≡ q i
       go true e =
           let f = eqb-true (P .sort i) s e in
           let y = x i h d in

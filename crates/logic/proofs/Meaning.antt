@@ -7,7 +7,7 @@ use lib.ListN.{length, getD, length-append, length-map, List·getD-append}
 use lib.Seq.{getD-append-seam}
 use native.Mathlib.Omega.{arith}
 use Rattle.prelude.proofs.Lists.{map-each}
-use Rattle.logic.specs.Sheet.{Sheet, Term, symbolAt, termAt, sortAt}
+use Rattle.logic.specs.Sheet.{Sheet, Term, symbolAt, termAt, sortAt, noTerm}
 use Rattle.prelude.specs.Tests.{Each}
 use Rattle.prelude.specs.Lists.{at}
 use Rattle.logic.specs.WellFormed.{WellFormed}
@@ -31,10 +31,7 @@ codesFrom-keeps M cs (t ∷ ts) j h =
     codesFrom-keeps M (cs ++ (tableAt M cs t ∷ [])) ts j (omega (arith, length-append cs (tableAt M cs t ∷ [])))
     ∙ List·getD-append cs (tableAt M cs t ∷ []) 0 j h
 
-abbrev entryAt : List Term → ℕ → Term
-entryAt ts k = getD ts k (record { symbol = 0; args = [] })
-
-codesFrom-at : (M : Structure) (cs : List ℕ) (ts : List Term) (k n : ℕ) → k < length ts → n ≡ length cs + k → Each (λ a. a < n) (entryAt ts k .args) → at (codesFrom M cs ts) n ≡ tableAt M (codesFrom M cs ts) (entryAt ts k)
+codesFrom-at : (M : Structure) (cs : List ℕ) (ts : List Term) (k n : ℕ) → k < length ts → n ≡ length cs + k → Each (λ a. a < n) (getD ts k noTerm .args) → at (codesFrom M cs ts) n ≡ tableAt M (codesFrom M cs ts) (getD ts k noTerm)
 codesFrom-at M cs [] k n h e l = absurd (omega arith)
 codesFrom-at M cs (t ∷ ts) zero n h e l =
     let next : List ℕ = cs ++ (tableAt M cs t ∷ []) in

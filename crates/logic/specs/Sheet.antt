@@ -34,18 +34,31 @@ pub record Sheet : Type 0 where
   pub literals : List Literal
   pub total : ℕ
 
--- the entry with a number; what these give past the end is never used of an accepted sheet
+-- what stands past the end of a list, which is never used of an accepted sheet
+abbrev pub noBound : Bound
+noBound = record { floor = 0; ceiling = 0 }
+
+abbrev pub noSymbol : Symbol
+noSymbol = record { result = 0; params = [] }
+
+abbrev pub noTerm : Term
+noTerm = record { symbol = 0; args = [] }
+
+abbrev pub noLiteral : Literal
+noLiteral = record { equal = true; left = 0; right = 0 }
+
+-- the entry with a number
 abbrev pub boundAt : Sheet → ℕ → Bound
-boundAt sh s = getD (sh .bounds) s (record { floor = 0; ceiling = 0 })
+boundAt sh s = getD (sh .bounds) s noBound
 
 abbrev pub symbolAt : Sheet → ℕ → Symbol
-symbolAt sh f = getD (sh .symbols) f (record { result = 0; params = [] })
+symbolAt sh f = getD (sh .symbols) f noSymbol
 
 abbrev pub termAt : Sheet → ℕ → Term
-termAt sh i = getD (sh .terms) i (record { symbol = 0; args = [] })
+termAt sh i = getD (sh .terms) i noTerm
 
 abbrev pub literalAt : Sheet → ℕ → Literal
-literalAt sh k = getD (sh .literals) k (record { equal = true; left = 0; right = 0 })
+literalAt sh k = getD (sh .literals) k noLiteral
 
 -- the sort of a term is the sort that its symbol gives
 abbrev pub sortAt : Sheet → ℕ → ℕ

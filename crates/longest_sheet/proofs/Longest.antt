@@ -2,8 +2,8 @@
 use mathlib.Core.Path.{_≡_, refl}
 use mathlib.Core.List.{flatMap}
 use lib.ListN.{length}
-use Rattle.sheet.specs.Layout.{accepted, cause, readFrom, reading}
-use Rattle.sheet.specs.Encode.{encode}
+use Rattle.layout.specs.Layout.{accepted, cause, readFrom, reading}
+use Rattle.layout.specs.Encode.{encode}
 use Rattle.longest_sheet.specs.LongestSheet.{longestSheet}
 
 pub longest-length : length (encode longestSheet) ≡ 2161

@@ -1,17 +1,18 @@
 -- Why a crowd is no greater than what its codes are counted by: numbers that all differ are at most as many as their bound. A list is
--- counted by a common word, by one label, or, of terms of one symbol, by pairs of what counts their arguments.
+-- counted by a common mask, by one label, or, of terms of one symbol, by pairs of what counts their arguments.
 use Prim.Native.Nat.{ℕ, zero, suc, _+_, _-_, _*_, _/_, _%_, _^_, _≤_, _<_}
 use mathlib.Core.Path.{_≡_, refl, sym, ap, subst, _∙_}
 use mathlib.Core.List.{List}
 use mathlib.Core.Logic.{_⊎_, inl, inr}
-use native.Mathlib.Nat.{mod-lt, mul-le-mul-right, suc-mul}
+use native.Mathlib.Nat.{mod-lt}
 use native.Mathlib.Omega.{arith}
 use borrow.Author.Count.{below-more}
 use lib.ListN.{length, set, length-set, replicate}
 use lib.Bits.{bitAnd, and-shr, and-step}
 use Rattle.prelude.specs.Lists.{at}
 use Rattle.prelude.proofs.Lists.{at-set-same, at-set-other}
-use Rattle.knowledge.specs.Knows.{Bit, Labels, Words, Marks, SmallCodes, Same, Differ, Means}
+use Rattle.prelude.proofs.Rows.{next-row}
+use Rattle.knowledge.specs.Knows.{Bit, Labels, Masks, Marks, SmallCodes, Same, Differ, Means}
 use Rattle.knowledge.proofs.Bits.{digit, compare}
 use Rattle.rules.specs.Reasons.{LawfulGrouped, KnownLawful}
 use Rattle.pigeonhole.specs.Parts.{leftBelow, KnownSmall, Unlike, Gathered, Counted, OneCode, Free, OneSymbol, Arguments}
@@ -59,7 +60,7 @@ pigeon (suc n) (suc k) f below apart =
     ]) in
     omega arith
 
--- the codes that a word leaves keep apart when counted
+-- the codes that a mask leaves keep apart when counted
 left-up : (w u v : ℕ) → u ≤ v → leftBelow w u ≤ leftBelow w v
 unfolding leftBelow
 left-up w zero zero h = omega arith
@@ -100,20 +101,14 @@ pub left-step : (w v n : ℕ) → n ≡ leftBelow w v → n + (1 - w / 2 ^ v % 2
 left-step w v n e = ap (λ (k : ℕ). k + (1 - w / 2 ^ v % 2)) e ∙ sym (left-next w v)
 
 -- pairs of numbers as one
-next-row : (r l n : ℕ) → r < l → r * n + n ≤ l * n
-next-row r l n h =
-    let s : suc r * n ≡ r * n + n = suc-mul r n in
-    let m : suc r * n ≤ l * n = mul-le-mul-right n (omega arith) in
-    omega arith
-
 cell-below : (r s l n : ℕ) → r < l → s < n → r * n + s < l * n
-cell-below r s l n hr hs = let h = next-row r l n hr in omega arith
+cell-below r s l n hr hs = let h = next-row r l n (r * n) hr refl in omega arith
 
 cell-row : (r s r′ s′ n : ℕ) → s < n → s′ < n → r * n + s ≡ r′ * n + s′ → r ≡ r′
 cell-row r s r′ s′ n hs hs′ e =
     elim (compare r r′) [
-      | inl l ↦ let h = next-row r r′ n l in absurd (omega arith)
-      | inr d ↦ elim d [ inl q ↦ q | inr g ↦ let h = next-row r′ r n g in absurd (omega arith) ]
+      | inl l ↦ let h = next-row r r′ n (r * n) l refl in absurd (omega arith)
+      | inr d ↦ elim d [ inl q ↦ q | inr g ↦ let h = next-row r′ r n (r′ * n) g refl in absurd (omega arith) ]
     ]
 
 cell-column : (r s r′ s′ n : ℕ) → r ≡ r′ → r * n + s ≡ r′ * n + s′ → s ≡ s′
@@ -121,12 +116,9 @@ cell-column r s r′ s′ n q e =
     let p : r * n ≡ r′ * n = ap (λ (k : ℕ). k * n) q in
     omega arith
 
-pub few-cells : (a b : ℕ) → a ≤ 16 → b ≤ 16 → a * b ≤ 256
-few-cells a b ha hb = let h : a * b ≤ 16 * b = mul-le-mul-right b ha in omega arith
-
--- what counts a list: a word, one code for all, pairs of what counts the arguments
-pub word-counted : (l w list : List ℕ) (k x r : ℕ) → r ≡ leftBelow x 16 → Means (λ c. Labels l c × Words w c) (Free x list k) → Means (λ c. SmallCodes c × (Labels l c × Words w c)) (Counted list k r)
-word-counted l w list k x r e free =
+-- what counts a list: a mask, one code for all, pairs of what counts the arguments
+pub mask-counted : (l w list : List ℕ) (k x r : ℕ) → r ≡ leftBelow x 16 → Means (λ c. Labels l c × Masks w c) (Free x list k) → Means (λ c. SmallCodes c × (Labels l c × Masks w c)) (Counted list k r)
+mask-counted l w list k x r e free =
     rw e
     (record {
       means = λ c h. record {
@@ -136,7 +128,7 @@ word-counted l w list k x r e free =
       };
     })
 
-pub one-code-counted : (l w list : List ℕ) (k : ℕ) → Means (Labels l) (OneCode list k) → Means (λ c. SmallCodes c × (Labels l c × Words w c)) (Counted list k 1)
+pub one-code-counted : (l w list : List ℕ) (k : ℕ) → Means (Labels l) (OneCode list k) → Means (λ c. SmallCodes c × (Labels l c × Masks w c)) (Counted list k 1)
 one-code-counted l w list k one =
     record {
       means = λ c h.
@@ -164,8 +156,8 @@ pairs-counted n symbol arg0 arg1 l w list firsts seconds k x y few of first seco
           };
     }
 
-pub settled-counted : (n : ℕ) (symbol arg0 arg1 l w list : List ℕ) (k r : ℕ) → Means (λ c. SmallCodes c × (Labels l c × Words w c)) (Counted list k r) → Means (LawfulGrouped n symbol arg0 arg1 l w) (Counted list k r)
-settled-counted n symbol arg0 arg1 l w list k r p = record { means = λ c s. p .means c (s .lawful .small, (s .labels, s .words)) }
+pub settled-counted : (n : ℕ) (symbol arg0 arg1 l w list : List ℕ) (k r : ℕ) → Means (λ c. SmallCodes c × (Labels l c × Masks w c)) (Counted list k r) → Means (LawfulGrouped n symbol arg0 arg1 l w) (Counted list k r)
+settled-counted n symbol arg0 arg1 l w list k r p = record { means = λ c s. p .means c (s .lawful .small, (s .labels, s .masks)) }
 
 -- a crowd has one symbol, and no codes are known of one with more terms than what counts them
 pub crowd-symbol : {n : ℕ} {symbol l w m : List ℕ} {f i : ℕ} {chosen : List ℕ} {k : ℕ} → Gathered n symbol l w m f i chosen k → OneSymbol n symbol chosen k
@@ -173,12 +165,12 @@ crowd-symbol g = record { terms = g .terms; symbols = λ a b ha hb. g .symbols a
 
 pub crowd-none : (n : ℕ) (symbol arg0 arg1 l w m : List ℕ) (f i : ℕ) (chosen : List ℕ) (k r : ℕ) (c : ℕ → ℕ) → Gathered n symbol l w m f i chosen k → Means (LawfulGrouped n symbol arg0 arg1 l w) (Counted chosen k r) → r < k → KnownLawful n symbol arg0 arg1 l w m c → ⊥
 crowd-none n symbol arg0 arg1 l w m f i chosen k r c g counted more known =
-    let p = counted .means c (record { lawful = known .lawful; labels = known .knows .labels; words = known .knows .words }) in
+    let p = counted .means c (record { lawful = known .lawful; labels = known .knows .labels; masks = known .knows .masks }) in
     let apart = g .apart .means c (record { small = known .lawful .small; knows = known .knows }) in
     let few : k ≤ r = pigeon r k (p .key) (p .below) (λ a b ab bk e. apart a b ab bk (p .same a b (omega arith) bk e)) in
     absurd (omega arith)
 
--- a bit of the codes common to two words is a bit of both
+-- a bit of the codes common to two masks is a bit of both
 both : (a b : ℕ) → bitAnd a b % 2 ≡ 1 → (a % 2 ≡ 1) × (b % 2 ≡ 1)
 both a b h =
     elim (digit (a % 2) (mod-lt a (omega arith))) [
@@ -250,27 +242,27 @@ taken n symbol l w m f i chosen k hn hi g e other =
     }
 
 -- one more of those that are chosen
-pub unlike-more : (l w m chosen : List ℕ) (k i g h b : ℕ) → Means (KnownSmall l w m) (Unlike chosen k i) → Means (Labels l) (Same g i) → Means (Labels l) (Same h b) → b ≡ at chosen k → Means (λ c. SmallCodes c × (Words w c × Marks m c)) (Differ h g) → Means (KnownSmall l w m) (Unlike chosen (k + 1) i)
+pub unlike-more : (l w m chosen : List ℕ) (k i g h b : ℕ) → Means (KnownSmall l w m) (Unlike chosen k i) → Means (Labels l) (Same g i) → Means (Labels l) (Same h b) → b ≡ at chosen k → Means (λ c. SmallCodes c × (Masks w c × Marks m c)) (Differ h g) → Means (KnownSmall l w m) (Unlike chosen (k + 1) i)
 unlike-more l w m chosen k i g h b old lg lh eb d =
     record {
       means = λ c x a ha e.
           elim (compare a k) [
             | inl q ↦ old .means c x a q e
             | inr r ↦ elim r [
-              | inl q ↦ d .means c (x .small, (x .knows .words, x .knows .marks)) (lh .means c (x .knows .labels) ∙ ap c (eb ∙ ap (at chosen) (sym q)) ∙ e ∙ sym (lg .means c (x .knows .labels)))
+              | inl q ↦ d .means c (x .small, (x .knows .masks, x .knows .marks)) (lh .means c (x .knows .labels) ∙ ap c (eb ∙ ap (at chosen) (sym q)) ∙ e ∙ sym (lg .means c (x .knows .labels)))
               | inr q ↦ absurd (omega arith)
             ]
           ];
     }
 
--- one more of a list: its code, its word, its argument
+-- one more of a list: its code, its mask, its argument
 pub one-code-more : (l list : List ℕ) (k g h t u : ℕ) → Means (Labels l) (OneCode list k) → Means (Labels l) (Same g t) → t ≡ at list 0 → Means (Labels l) (Same h u) → u ≡ at list k → h ≡ g → Means (Labels l) (OneCode list (k + 1))
 one-code-more l list k g h t u old lg et lh eu e =
     record {
       means = λ c x. below-more _ k (old .means c x) (ap c (sym eu) ∙ sym (lh .means c x) ∙ ap c e ∙ lg .means c x ∙ ap c et);
     }
 
-pub common-more : (l w list : List ℕ) (k x y g t : ℕ) → Means (λ c. Labels l c × Words w c) (Free x list k) → Means (Labels l) (Same g t) → t ≡ at list k → Means (Words w) (λ c. Bit y (c g) → ⊥) → Means (λ c. Labels l c × Words w c) (Free (bitAnd x y) list (k + 1))
+pub common-more : (l w list : List ℕ) (k x y g t : ℕ) → Means (λ c. Labels l c × Masks w c) (Free x list k) → Means (Labels l) (Same g t) → t ≡ at list k → Means (Masks w) (λ c. Bit y (c g) → ⊥) → Means (λ c. Labels l c × Masks w c) (Free (bitAnd x y) list (k + 1))
 common-more l w list k x y g t old lg e free =
     record {
       means = λ c h.

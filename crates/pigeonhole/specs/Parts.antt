@@ -44,7 +44,7 @@ pub record Counted (list : List ℕ) (k r : ℕ) (c : ℕ → ℕ) : Type 0 wher
 abbrev pub OneCode : List ℕ → ℕ → (ℕ → ℕ) → Type 0
 OneCode list k c = (a : ℕ) → a < k → c (at list a) ≡ c (at list 0)
 
--- no code of the first k of a list is struck out in a word
+-- no code of the first k of a list is struck out in a mask
 abbrev pub Free : ℕ → List ℕ → ℕ → (ℕ → ℕ) → Type 0
 Free w list k c = (a : ℕ) → a < k → Bit w (c (at list a)) → ⊥
 

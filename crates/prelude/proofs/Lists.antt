@@ -30,6 +30,10 @@ at-set-same l i v h = getD-set-same l i v 0 h
 pub at-set-other : (l : List ℕ) (i v j : ℕ) → (j ≡ i → ⊥) → at (set l i v) j ≡ at l j
 at-set-other l i v j ne = getD-set-other l i j v 0 ne
 
+-- an entry of at most m stays so after one of at most m is stored
+pub at-set-most : (l : List ℕ) (i v m j : ℕ) → at l j ≤ m → v ≤ m → at (set l i v) j ≤ m
+at-set-most l i v m j h e = elim (at-set l i v j) [ inl x ↦ rw x h | inr x ↦ rw (x .1) e ]
+
 -- the places below i hold what f says, and so does place i once it is stored
 pub filled-more : (f : ℕ → ℕ) (l : List ℕ) (i v : ℕ) → i < length l → v ≡ f i → ((k : ℕ) → k < i → at l k ≡ f k) → (k : ℕ) → k < i + 1 → at (set l i v) k ≡ f k
 filled-more f l i v h e below k b =
@@ -48,6 +52,11 @@ pub at-map : {A : Type 0} (g : A → ℕ) (l : List A) (d : A) (k : ℕ) → k <
 at-map g [] d k h = absurd (not-suc-le-zero h)
 at-map g (x ∷ xs) d zero h = refl
 at-map g (x ∷ xs) d (suc k) h = at-map g xs d k (le-of-suc-le-suc h)
+
+-- what holds of each entry of a list, and what follows from it
+pub each-more : {p q : ℕ → Type 0} (l : List ℕ) → ((a : ℕ) → p a → q a) → Each p l → Each q l
+each-more [] h e = tt
+each-more (a ∷ l) h e = (h a (e .0), each-more l h (e .1))
 
 -- two functions that agree on each entry of a list
 pub map-each : (f g : ℕ → ℕ) (p : ℕ → Type 0) → ((a : ℕ) → p a → f a ≡ g a) → (l : List ℕ) → Each p l → map f l ≡ map g l

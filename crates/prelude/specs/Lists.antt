@@ -1,7 +1,7 @@
--- The interface: lists of numbers: an entry, a run of numbers, the first values of a function and their sum.
+-- The interface: lists of numbers: an entry, a run of numbers, the first values of a function and their sum, a buffer with bytes in front.
 use Prim.Native.Nat.{ℕ, zero, suc, _+_}
 use mathlib.Core.List.{List, [], _∷_, _++_}
-use lib.ListN.{getD}
+use lib.ListN.{length, drop, getD}
 
 -- what stands in a list at a place, 0 past its end
 abbrev pub at : List ℕ → ℕ → ℕ
@@ -21,3 +21,7 @@ firsts (suc n) f = firsts n f ++ (f n ∷ [])
 abbrev pub sumTo : ℕ → (ℕ → ℕ) → ℕ
 sumTo zero f = 0
 sumTo (suc n) f = sumTo n f + f n
+
+-- a buffer with new bytes in front; the bytes behind them are untouched
+abbrev pub fronted : List ℕ → List ℕ → List ℕ
+fronted new buffer = new ++ drop (length new) buffer

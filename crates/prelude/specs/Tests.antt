@@ -5,11 +5,6 @@ use mathlib.Core.Bool.{Bool, true, false, _&&_}
 use mathlib.Core.List.{List, [], _∷_}
 use lib.Dec.{leb, eqb}
 
--- the first of two where the test holds, else the second
-abbrev pub if : {A : Type 0} → Bool → A → A → A
-if true a b = a
-if false a b = b
-
 -- the answer to the question whether A holds
 pub record Decides (answer : Bool) (A : Type 0) : Type 0 where
   pub yes : answer ≡ true → A

@@ -1,2 +1,1 @@
 pub mod Propagated
-pub mod Parts

@@ -11,9 +11,9 @@ use Rattle.knowledge.specs.Knows.{Knows, SmallCodes}
 abbrev pub Begun : Problem → List ℕ → List ℕ → List ℕ → Type 0
 Begun P l w m = (size c : ℕ → ℕ) → Consistent P size c → Knows l w m c
 
--- every consistent code of these sizes is below 16, so that a word of 16 bits has a bit for it
-abbrev pub FitWord : Problem → (ℕ → ℕ) → Type 0
-FitWord P size = (c : ℕ → ℕ) → Consistent P size c → SmallCodes c
+-- every consistent code of these sizes is below 16, so that a mask of 16 bits has a bit for it
+abbrev pub FitMask : Problem → (ℕ → ℕ) → Type 0
+FitMask P size = (c : ℕ → ℕ) → Consistent P size c → SmallCodes c
 
 -- known of the consistent codes that keep to what q decides
 abbrev pub Knowing : Problem → (ℕ → ℕ) → (ℕ → ℕ) → List ℕ → List ℕ → List ℕ → Type 0

@@ -10,12 +10,12 @@ use lib.ListN.{length}
 use lib.Dec.{lit<, lit≤}
 use lib.Seq.{getD-take}
 use Rattle.logic.specs.Sheet.{Sheet}
-use Rattle.prelude.specs.Lists.{at, sumTo}
+use Rattle.prelude.specs.Lists.{at, sumTo, fronted}
 use Rattle.prelude.proofs.Lists.{sumTo-same}
-use Rattle.sheet.specs.Layout.{Reading, accepted, refused, reading, readFrom, cause}
-use Rattle.sheet.specs.Packed.{verdict}
+use Rattle.layout.specs.Layout.{Reading, accepted, refused, reading, readFrom, cause}
+use Rattle.sheet.specs.Verdict.{verdict}
 use Rattle.sheet.specs.declared.Verdict.the-variants as verdicts
-use Rattle.sheet.proofs.Answers.{refused-number}
+use Rattle.layout.proofs.Answers.{refused-number}
 use Rattle.tables.specs.Layout.{extent}
 use Rattle.tables.specs.Tests.{wellLaid, inBounds}
 use Rattle.tables.specs.declared.Judgement.{Judgement}
@@ -23,12 +23,13 @@ use Rattle.tables.specs.declared.Judgement.the-variants.{Fits, OutOfBounds}
 use Rattle.tables.proofs.Laid.{well-laid-test}
 use Rattle.judge.specs.Judge.{judged, judgement}
 use Rattle.forced.proofs.Fixed.{no-fixed-reply}
-use Rattle.finder.specs.Find.{turnedDown, ceilings, outcome, fronted, tablesAfter}
-use Rattle.finder.specs.Demand.{Hopeless, tablesWritten}
-use Rattle.finder.specs.Worked.{Row, row1, row2, row5, row13, Shows}
+use Rattle.finder.specs.Find.{turnedDown, ceilings, outcome, tablesAfter}
+use Rattle.answer.specs.Demand.{Hopeless}
+use Rattle.finder.specs.Promise.{tablesWritten}
+use Rattle.worked.specs.Worked.{Row, row1, row2, row5, row13, Shows}
 use Rattle.finder.specs.declared.Finding.{Finding}
 use Rattle.finder.specs.declared.Finding.the-variants.{Found, Refused}
-use Rattle.finder.proofs.Worked.{sheetOf, worked}
+use Rattle.worked.proofs.Worked.{sheetOf, worked}
 use Rattle.finder.proofs.Outcomes.{outcome-refused, outcome-short}
 use Rattle.finder.proofs.Buffers.{exit}
 use Rattle.finder.proofs.Delivery.{accepted-promised}

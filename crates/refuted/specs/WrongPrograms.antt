@@ -8,17 +8,17 @@ use mathlib.Core.List.{List}
 use lib.ListN.{length}
 use Rattle.logic.specs.Sheet.{Sheet, sortAt}
 use Rattle.prelude.specs.Lists.{at, sumTo}
-use Rattle.sheet.specs.Layout.{accepted, reading}
-use Rattle.sheet.specs.Packed.{verdict}
+use Rattle.layout.specs.Layout.{accepted, reading}
+use Rattle.sheet.specs.Verdict.{verdict}
 use Rattle.sheet.specs.declared.Verdict.{Verdict}
 use Rattle.sheet.specs.declared.Verdict.the-variants as verdicts
 use Rattle.tables.specs.Layout.{extent, WellLaid}
 use Rattle.tables.specs.declared.Judgement.{Judgement}
 use Rattle.judge.specs.Judge.{judgement}
-use Rattle.forced.specs.Answer.{comparable, answer}
+use Rattle.forced.specs.Forcing.{comparable, forcing}
 use Rattle.forced.specs.declared.Forcing.{Forcing}
 use Rattle.finder.specs.Find.{ceilings, Finds}
-use Rattle.finder.specs.Demand.{Hopeless}
+use Rattle.answer.specs.Demand.{Hopeless}
 use Rattle.finder.specs.declared.Finding.{Finding}
 use Rattle.finder.specs.declared.Finding.the-variants.{Found, Refused}
 
@@ -113,7 +113,7 @@ abbrev pub ForcedProgram : Type 0
 ForcedProgram = List ℕ → ℕ → ℕ → Forcing
 
 abbrev pub MeetsForced : ForcedProgram → Type 0
-MeetsForced p = (s : List ℕ) (a b : ℕ) → p s a b ≡ answer s a b
+MeetsForced p = (s : List ℕ) (a b : ℕ) → p s a b ≡ forcing s a b
 
 -- one fixed reply, even if only to calls that are not turned down: expressions of an accepted sheet that lie in one field
 abbrev pub FixedForcing : ForcedProgram → Forcing → Type 0

@@ -1,16 +1,16 @@
 // The rules of propagation, each a pass over all terms that adds knowledge. A rule is an optional inference: a pass promises that what
 // was true of an assignment stays true, and which pairs of terms it tries is free.
-use knowledge::MARK_WORDS;
-use knowledge::WORD_BITS;
+use knowledge::HALF_BITS;
+use knowledge::MARK_HALVES;
 use knowledge::apart;
 use knowledge::join;
 use knowledge::label;
 use knowledge::lowest;
 use knowledge::mark;
 use knowledge::marked;
+use knowledge::mask;
 use knowledge::single;
 use knowledge::strike;
-use knowledge::word;
 use prelude::BYTE_VALUES;
 use prelude::MISSING;
 use prelude::MOST_CODES;
@@ -20,7 +20,7 @@ use prelude::wide;
 ghost use Prim.Native.Nat.{_*_, _≤_, _<_};
 ghost use Rattle.prelude.specs.Limits.{mostSorts, mostTerms, mostCodes};
 ghost use Rattle.prelude.specs.Lists.{at};
-ghost use Rattle.knowledge.specs.Knows.{Labels, Words, Marks, Knows, SmallCodes, Same, Means, Kept};
+ghost use Rattle.knowledge.specs.Knows.{Labels, Masks, Marks, Knows, SmallCodes, Same, Means, Kept};
 ghost use Rattle.logic.specs.Problem.{Congruent};
 ghost use Rattle.rules.specs.Reasons.{SmallMarks, LawfulGrouped};
 ghost use Rattle.rules.specs.Parts.{CodeMarks};
@@ -37,19 +37,19 @@ const SLOTS: usize = 256;
 // R2: groups of one sort with the same single code left are one.
 pub fn join_singles(
     labels: &mut [u8; MOST_TERMS],
-    words: &mut [u16; MOST_TERMS],
-    marks: &mut [u64; MARK_WORDS],
+    masks: &mut [u16; MOST_TERMS],
+    marks: &mut [u64; MARK_HALVES],
     sort: &[u8; MOST_TERMS],
     n: usize,
 ) -> bool
     requires { ⌜ n ≤ mostTerms ⌝ }
-    ensures { λ _. ⌜ Kept SmallCodes (Knows (now (labels .entry)) (now (words .entry)) (now (marks .entry))) (Knows (now (labels .exit)) (now (words .exit)) (now (marks .exit))) ⌝ }
+    ensures { λ _. ⌜ Kept SmallCodes (Knows (now (labels .entry)) (now (masks .entry)) (now (marks .entry))) (Knows (now (labels .exit)) (now (masks .exit)) (now (marks .exit))) ⌝ }
 {
     let mut first = [NO_TERM; PLACES];
     let mut news = false;
     let mut i: usize = 0;
     while i < n {
-        news = meet_single(labels, words, marks, &mut first, sort[i], i) | news;
+        news = meet_single(labels, masks, marks, &mut first, sort[i], i) | news;
         i += 1;
     }
     news
@@ -59,8 +59,8 @@ pub fn join_singles(
 // at the others.
 pub fn join_congruent<'a>(
     labels: &mut [u8; MOST_TERMS],
-    words: &mut [u16; MOST_TERMS],
-    marks: &mut [u64; MARK_WORDS],
+    masks: &mut [u16; MOST_TERMS],
+    marks: &mut [u64; MARK_HALVES],
     fresh: &mut [u8; MOST_TERMS],
     symbol: &'a [u8; MOST_TERMS],
     arg0: &'a [u8; MOST_TERMS],
@@ -68,7 +68,7 @@ pub fn join_congruent<'a>(
     n: usize,
 ) -> bool
     requires { ⌜ n ≤ mostTerms ⌝ }
-    ensures { λ _. ⌜ Kept (Congruent n (at (now (symbol .entry))) (at (now (arg0 .entry))) (at (now (arg1 .entry)))) (Knows (now (labels .entry)) (now (words .entry)) (now (marks .entry))) (Knows (now (labels .exit)) (now (words .exit)) (now (marks .exit))) ⌝ }
+    ensures { λ _. ⌜ Kept (Congruent n (at (now (symbol .entry))) (at (now (arg0 .entry))) (at (now (arg1 .entry)))) (Knows (now (labels .entry)) (now (masks .entry)) (now (marks .entry))) (Knows (now (labels .exit)) (now (masks .exit)) (now (marks .exit))) ⌝ }
 {
     let mut table = [NO_TERM; SLOTS];
     let mut keys = [0u32; SLOTS];
@@ -77,7 +77,7 @@ pub fn join_congruent<'a>(
     while i < n {
         news = meet_key(
             labels,
-            words,
+            masks,
             marks,
             &mut table,
             &mut keys,
@@ -96,18 +96,18 @@ pub fn join_congruent<'a>(
 
 // R5: a group with one code left takes it out of the groups marked against it.
 pub fn strike_marked<'a>(
-    words: &mut [u16; MOST_TERMS],
+    masks: &mut [u16; MOST_TERMS],
     labels: &'a [u8; MOST_TERMS],
-    marks: &'a [u64; MARK_WORDS],
+    marks: &'a [u64; MARK_HALVES],
     n: usize,
 ) -> bool
     requires { ⌜ n ≤ mostTerms ⌝ }
-    ensures { λ _. ⌜ Kept (SmallMarks (now (marks .entry))) (Words (now (words .entry))) (Words (now (words .exit))) ⌝ }
+    ensures { λ _. ⌜ Kept (SmallMarks (now (marks .entry))) (Masks (now (masks .entry))) (Masks (now (masks .exit))) ⌝ }
 {
     let mut news = false;
     let mut i: usize = 0;
     while i < n {
-        news = strike_row(words, labels, marks, i) | news;
+        news = strike_row(masks, labels, marks, i) | news;
         i += 1;
     }
     news
@@ -116,9 +116,9 @@ pub fn strike_marked<'a>(
 // R4: where the results of one symbol differ and all argument pairs but one are equal, that pair differs. The terms to compare with share
 // the second argument, or the lack of one, or the first.
 pub fn mark_arguments<'a>(
-    marks: &mut [u64; MARK_WORDS],
+    marks: &mut [u64; MARK_HALVES],
     labels: &'a [u8; MOST_TERMS],
-    words: &'a [u16; MOST_TERMS],
+    masks: &'a [u16; MOST_TERMS],
     symbol: &'a [u8; MOST_TERMS],
     arg0: &'a [u8; MOST_TERMS],
     arg1: &'a [u8; MOST_TERMS],
@@ -126,33 +126,33 @@ pub fn mark_arguments<'a>(
     n: usize,
 ) -> bool
     requires { ⌜ n ≤ mostTerms ⌝ }
-    ensures { λ _. ⌜ Kept (LawfulGrouped n (now (symbol .entry)) (now (arg0 .entry)) (now (arg1 .entry)) (now (labels .entry)) (now (words .entry))) (Marks (now (marks .entry))) (Marks (now (marks .exit))) ⌝ }
+    ensures { λ _. ⌜ Kept (LawfulGrouped n (now (symbol .entry)) (now (arg0 .entry)) (now (arg1 .entry)) (now (labels .entry)) (now (masks .entry))) (Marks (now (marks .entry))) (Marks (now (marks .exit))) ⌝ }
 {
     let firsts = buckets(labels, symbol, arg0, arg1, fresh, n);
-    let news = contrapose_all(marks, labels, words, symbol, arg0, arg1, &firsts, n);
+    let news = contrapose_all(marks, labels, masks, symbol, arg0, arg1, &firsts, n);
     let seconds = buckets(labels, symbol, arg1, arg0, fresh, n);
-    contrapose_all(marks, labels, words, symbol, arg0, arg1, &seconds, n) | news
+    contrapose_all(marks, labels, masks, symbol, arg0, arg1, &seconds, n) | news
 }
 
 // R2 of two terms: with the same single code left they are one group.
 fn same_code(
     labels: &mut [u8; MOST_TERMS],
-    words: &mut [u16; MOST_TERMS],
-    marks: &mut [u64; MARK_WORDS],
+    masks: &mut [u16; MOST_TERMS],
+    marks: &mut [u64; MARK_HALVES],
     i: usize,
     j: usize,
 ) -> bool
-    ensures { λ _. ⌜ Kept SmallCodes (Knows (now (labels .entry)) (now (words .entry)) (now (marks .entry))) (Knows (now (labels .exit)) (now (words .exit)) (now (marks .exit))) ⌝ }
+    ensures { λ _. ⌜ Kept SmallCodes (Knows (now (labels .entry)) (now (masks .entry)) (now (marks .entry))) (Knows (now (labels .exit)) (now (masks .exit)) (now (marks .exit))) ⌝ }
 {
-    let v = single(word(words, i));
+    let v = single(mask(masks, i));
     if MOST_CODES <= v {
         return false;
     }
-    let u = single(word(words, j));
+    let u = single(mask(masks, j));
     if u != v {
         return false;
     }
-    join(labels, words, marks, i, j)
+    join(labels, masks, marks, i, j)
 }
 
 // The place for the code v of a sort among the groups with a single code.
@@ -166,19 +166,19 @@ fn place_of(sort: u8, v: usize) -> usize
 // R2 of one group: joins it to the group met before with its single code, or notes it as the first.
 fn meet_single(
     labels: &mut [u8; MOST_TERMS],
-    words: &mut [u16; MOST_TERMS],
-    marks: &mut [u64; MARK_WORDS],
+    masks: &mut [u16; MOST_TERMS],
+    marks: &mut [u64; MARK_HALVES],
     first: &mut [u8; PLACES],
     sort: u8,
     i: usize,
 ) -> bool
     requires { ⌜ i < mostTerms ⌝ }
-    ensures { λ _. ⌜ Kept SmallCodes (Knows (now (labels .entry)) (now (words .entry)) (now (marks .entry))) (Knows (now (labels .exit)) (now (words .exit)) (now (marks .exit))) ⌝ }
+    ensures { λ _. ⌜ Kept SmallCodes (Knows (now (labels .entry)) (now (masks .entry)) (now (marks .entry))) (Knows (now (labels .exit)) (now (masks .exit)) (now (marks .exit))) ⌝ }
 {
     if label(labels, i) != i {
         return false;
     }
-    let v = single(word(words, i));
+    let v = single(mask(masks, i));
     if MOST_CODES <= v {
         return false;
     }
@@ -188,7 +188,7 @@ fn meet_single(
         first[k] = i as u8;
         return false;
     }
-    same_code(labels, words, marks, wide(j), i)
+    same_code(labels, masks, marks, wide(j), i)
 }
 
 // The label of an argument of a term.
@@ -202,8 +202,8 @@ fn argument<'a>(labels: &'a [u8; MOST_TERMS], args: &'a [u8; MOST_TERMS], i: usi
 // R3 of two terms: one symbol and equal argument labels, so they are one group.
 fn congruent<'a>(
     labels: &mut [u8; MOST_TERMS],
-    words: &mut [u16; MOST_TERMS],
-    marks: &mut [u64; MARK_WORDS],
+    masks: &mut [u16; MOST_TERMS],
+    marks: &mut [u64; MARK_HALVES],
     symbol: &'a [u8; MOST_TERMS],
     arg0: &'a [u8; MOST_TERMS],
     arg1: &'a [u8; MOST_TERMS],
@@ -212,7 +212,7 @@ fn congruent<'a>(
     j: usize,
 ) -> bool
     requires { ⌜ (n ≤ mostTerms) × (i < n) ⌝ }
-    ensures { λ _. ⌜ Kept (Congruent n (at (now (symbol .entry))) (at (now (arg0 .entry))) (at (now (arg1 .entry)))) (Knows (now (labels .entry)) (now (words .entry)) (now (marks .entry))) (Knows (now (labels .exit)) (now (words .exit)) (now (marks .exit))) ⌝ }
+    ensures { λ _. ⌜ Kept (Congruent n (at (now (symbol .entry))) (at (now (arg0 .entry))) (at (now (arg1 .entry)))) (Knows (now (labels .entry)) (now (masks .entry)) (now (marks .entry))) (Knows (now (labels .exit)) (now (masks .exit)) (now (marks .exit))) ⌝ }
 {
     if n <= j {
         return false;
@@ -228,7 +228,7 @@ fn congruent<'a>(
     if argument(labels, arg1, i) != argument(labels, arg1, j) {
         return false;
     }
-    join(labels, words, marks, i, j)
+    join(labels, masks, marks, i, j)
 }
 
 // The symbol and the argument labels of a term as one number.
@@ -269,8 +269,8 @@ fn slot<'a>(table: &'a [u8; SLOTS], keys: &'a [u32; SLOTS], k: u32) -> usize
 // R3 of one term: joins it to the term met before with its key, or notes it as the first.
 fn meet_key<'a>(
     labels: &mut [u8; MOST_TERMS],
-    words: &mut [u16; MOST_TERMS],
-    marks: &mut [u64; MARK_WORDS],
+    masks: &mut [u16; MOST_TERMS],
+    marks: &mut [u64; MARK_HALVES],
     table: &mut [u8; SLOTS],
     keys: &mut [u32; SLOTS],
     fresh: &mut [u8; MOST_TERMS],
@@ -281,7 +281,7 @@ fn meet_key<'a>(
     i: usize,
 ) -> bool
     requires { ⌜ (n ≤ mostTerms) × (i < n) ⌝ }
-    ensures { λ _. ⌜ Kept (Congruent n (at (now (symbol .entry))) (at (now (arg0 .entry))) (at (now (arg1 .entry)))) (Knows (now (labels .entry)) (now (words .entry)) (now (marks .entry))) (Knows (now (labels .exit)) (now (words .exit)) (now (marks .exit))) ⌝ }
+    ensures { λ _. ⌜ Kept (Congruent n (at (now (symbol .entry))) (at (now (arg0 .entry))) (at (now (arg1 .entry)))) (Knows (now (labels .entry)) (now (masks .entry)) (now (marks .entry))) (Knows (now (labels .exit)) (now (masks .exit)) (now (marks .exit))) ⌝ }
 {
     if arg0[i] == MISSING {
         return false;
@@ -296,41 +296,41 @@ fn meet_key<'a>(
         return false;
     }
     fresh[i] = 0;
-    congruent(labels, words, marks, symbol, arg0, arg1, n, i, wide(j))
+    congruent(labels, masks, marks, symbol, arg0, arg1, n, i, wide(j))
 }
 
 // R5 of two groups: k cannot have the code v of a group g that it is marked against.
 fn strike_one(
-    words: &mut [u16; MOST_TERMS],
-    marks: &[u64; MARK_WORDS],
+    masks: &mut [u16; MOST_TERMS],
+    marks: &[u64; MARK_HALVES],
     g: usize,
     v: usize,
     k: usize,
 ) -> bool
     requires { ⌜ v < mostCodes ⌝ }
-    ensures { λ _. ⌜ Kept (CodeMarks (now (marks .entry)) g v) (Words (now (words .entry))) (Words (now (words .exit))) ⌝ }
+    ensures { λ _. ⌜ Kept (CodeMarks (now (marks .entry)) g v) (Masks (now (masks .entry))) (Masks (now (masks .exit))) ⌝ }
 {
     if marked(marks, g, k) {
-        return strike(words, k, 1u16 << v);
+        return strike(masks, k, 1u16 << v);
     }
     false
 }
 
 // R5 of one group and half of the groups marked against it.
 fn strike_half(
-    words: &mut [u16; MOST_TERMS],
-    marks: &[u64; MARK_WORDS],
+    masks: &mut [u16; MOST_TERMS],
+    marks: &[u64; MARK_HALVES],
     g: usize,
     v: usize,
     half: usize,
 ) -> bool
     requires { ⌜ (v < mostCodes) × ((g < mostTerms) × (half < 2)) ⌝ }
-    ensures { λ _. ⌜ Kept (CodeMarks (now (marks .entry)) g v) (Words (now (words .entry))) (Words (now (words .exit))) ⌝ }
+    ensures { λ _. ⌜ Kept (CodeMarks (now (marks .entry)) g v) (Masks (now (masks .entry))) (Masks (now (masks .exit))) ⌝ }
 {
     let mut rest: u64 = marks[2 * g + half];
     let mut news = false;
     while 0 < rest {
-        news = strike_one(words, marks, g, v, half * WORD_BITS + lowest(rest)) | news;
+        news = strike_one(masks, marks, g, v, half * HALF_BITS + lowest(rest)) | news;
         rest = rest & (rest - 1);
     }
     news
@@ -338,23 +338,23 @@ fn strike_half(
 
 // R5 of one group: a single code left is struck out in the groups marked against it.
 fn strike_row<'a>(
-    words: &mut [u16; MOST_TERMS],
+    masks: &mut [u16; MOST_TERMS],
     labels: &'a [u8; MOST_TERMS],
-    marks: &'a [u64; MARK_WORDS],
+    marks: &'a [u64; MARK_HALVES],
     g: usize,
 ) -> bool
     requires { ⌜ g < mostTerms ⌝ }
-    ensures { λ _. ⌜ Kept (SmallMarks (now (marks .entry))) (Words (now (words .entry))) (Words (now (words .exit))) ⌝ }
+    ensures { λ _. ⌜ Kept (SmallMarks (now (marks .entry))) (Masks (now (masks .entry))) (Masks (now (masks .exit))) ⌝ }
 {
     if label(labels, g) != g {
         return false;
     }
-    let v = single(word(words, g));
+    let v = single(mask(masks, g));
     if MOST_CODES <= v {
         return false;
     }
-    let low = strike_half(words, marks, g, v, 0);
-    let high = strike_half(words, marks, g, v, 1);
+    let low = strike_half(masks, marks, g, v, 0);
+    let high = strike_half(masks, marks, g, v, 1);
     low | high
 }
 
@@ -386,9 +386,9 @@ fn buckets<'a>(
 
 // R4 of two terms: where their results differ and all argument pairs but one are equal, that pair differs.
 fn contrapose<'a>(
-    marks: &mut [u64; MARK_WORDS],
+    marks: &mut [u64; MARK_HALVES],
     labels: &'a [u8; MOST_TERMS],
-    words: &'a [u16; MOST_TERMS],
+    masks: &'a [u16; MOST_TERMS],
     symbol: &'a [u8; MOST_TERMS],
     arg0: &'a [u8; MOST_TERMS],
     arg1: &'a [u8; MOST_TERMS],
@@ -397,7 +397,7 @@ fn contrapose<'a>(
     j: usize,
 ) -> bool
     requires { ⌜ (n ≤ mostTerms) × (i < n) ⌝ }
-    ensures { λ _. ⌜ Kept (LawfulGrouped n (now (symbol .entry)) (now (arg0 .entry)) (now (arg1 .entry)) (now (labels .entry)) (now (words .entry))) (Marks (now (marks .entry))) (Marks (now (marks .exit))) ⌝ }
+    ensures { λ _. ⌜ Kept (LawfulGrouped n (now (symbol .entry)) (now (arg0 .entry)) (now (arg1 .entry)) (now (labels .entry)) (now (masks .entry))) (Marks (now (marks .entry))) (Marks (now (marks .exit))) ⌝ }
 {
     if n <= j {
         return false;
@@ -407,7 +407,7 @@ fn contrapose<'a>(
     if f != g {
         return false;
     }
-    if !apart(words, marks, label(labels, i), label(labels, j)) {
+    if !apart(masks, marks, label(labels, i), label(labels, j)) {
         return false;
     }
     let a = argument(labels, arg0, i);
@@ -425,9 +425,9 @@ fn contrapose<'a>(
 
 // R4 of one term and the earlier terms of its symbol.
 fn contrapose_row<'a>(
-    marks: &mut [u64; MARK_WORDS],
+    marks: &mut [u64; MARK_HALVES],
     labels: &'a [u8; MOST_TERMS],
-    words: &'a [u16; MOST_TERMS],
+    masks: &'a [u16; MOST_TERMS],
     symbol: &'a [u8; MOST_TERMS],
     arg0: &'a [u8; MOST_TERMS],
     arg1: &'a [u8; MOST_TERMS],
@@ -436,13 +436,13 @@ fn contrapose_row<'a>(
     i: usize,
 ) -> bool
     requires { ⌜ (n ≤ mostTerms) × (i < n) ⌝ }
-    ensures { λ _. ⌜ Kept (LawfulGrouped n (now (symbol .entry)) (now (arg0 .entry)) (now (arg1 .entry)) (now (labels .entry)) (now (words .entry))) (Marks (now (marks .entry))) (Marks (now (marks .exit))) ⌝ }
+    ensures { λ _. ⌜ Kept (LawfulGrouped n (now (symbol .entry)) (now (arg0 .entry)) (now (arg1 .entry)) (now (labels .entry)) (now (masks .entry))) (Marks (now (marks .entry))) (Marks (now (marks .exit))) ⌝ }
 {
     let mut news = false;
     let mut j = wide(earlier[i]);
     let mut tried: usize = 0;
     while j < MOST_TERMS && tried < MOST_TERMS {
-        news = contrapose(marks, labels, words, symbol, arg0, arg1, n, i, j) | news;
+        news = contrapose(marks, labels, masks, symbol, arg0, arg1, n, i, j) | news;
         j = wide(earlier[j]);
         tried += 1;
     }
@@ -451,9 +451,9 @@ fn contrapose_row<'a>(
 
 // R4 of each term and the earlier terms of its bucket.
 fn contrapose_all<'a>(
-    marks: &mut [u64; MARK_WORDS],
+    marks: &mut [u64; MARK_HALVES],
     labels: &'a [u8; MOST_TERMS],
-    words: &'a [u16; MOST_TERMS],
+    masks: &'a [u16; MOST_TERMS],
     symbol: &'a [u8; MOST_TERMS],
     arg0: &'a [u8; MOST_TERMS],
     arg1: &'a [u8; MOST_TERMS],
@@ -461,13 +461,13 @@ fn contrapose_all<'a>(
     n: usize,
 ) -> bool
     requires { ⌜ n ≤ mostTerms ⌝ }
-    ensures { λ _. ⌜ Kept (LawfulGrouped n (now (symbol .entry)) (now (arg0 .entry)) (now (arg1 .entry)) (now (labels .entry)) (now (words .entry))) (Marks (now (marks .entry))) (Marks (now (marks .exit))) ⌝ }
+    ensures { λ _. ⌜ Kept (LawfulGrouped n (now (symbol .entry)) (now (arg0 .entry)) (now (arg1 .entry)) (now (labels .entry)) (now (masks .entry))) (Marks (now (marks .entry))) (Marks (now (marks .exit))) ⌝ }
 {
     let mut news = false;
     let mut i: usize = n;
     while 0 < i {
         i -= 1;
-        news = contrapose_row(marks, labels, words, symbol, arg0, arg1, earlier, n, i) | news;
+        news = contrapose_row(marks, labels, masks, symbol, arg0, arg1, earlier, n, i) | news;
     }
     news
 }

@@ -1,9 +1,9 @@
 // The search: of all interpretations of a sheet, the sizes and codes that come first.
+use layout::Parsed;
 use prelude::BYTE_VALUES;
 use prelude::MOST_SORTS;
-use sheet::Parsed;
 ghost use Rattle.prelude.specs.Lists.{at};
-ghost use Rattle.sheet.specs.Packed.{view};
+ghost use Rattle.layout.specs.Packed.{view};
 ghost use Rattle.consistency.specs.Searchable.{Searchable};
 ghost use Rattle.search.specs.Answered.{Answered};
 

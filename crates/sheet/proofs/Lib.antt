@@ -1,14 +1,2 @@
-pub mod View
-pub mod Steps
-pub mod Causes
-pub mod Pack
-pub mod Pairs
-pub mod Terms
-pub mod ByKind
-pub mod Growing
-pub mod Records
-pub mod Longest
-pub mod Encoding
-pub mod Written
-pub mod Answers
+pub mod Parser
 pub mod Verdicts

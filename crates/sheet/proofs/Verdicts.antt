@@ -5,11 +5,12 @@ use native.Mathlib.Omega.{arith}
 use mathlib.Core.Path.{_≡_, refl, ap, sym, _∙_}
 use mathlib.Core.List.{List}
 use Rattle.logic.specs.Sheet.{Sheet}
-use Rattle.sheet.specs.Layout.{Reading, accepted, refused, reading, empty}
-use Rattle.sheet.specs.Packed.{packed, parsing, verdict}
+use Rattle.layout.specs.Layout.{Reading, accepted, refused, reading, empty}
+use Rattle.layout.specs.Packed.{packed}
+use Rattle.sheet.specs.Verdict.{parsing, verdict}
 use Rattle.sheet.specs.declared.Parsing.{Parsing}
 use Rattle.sheet.specs.declared.Verdict.the-variants.{Accepted, Refused}
-use Rattle.sheet.proofs.Answers.{refused-number}
+use Rattle.layout.proofs.Answers.{refused-number}
 
 -- the bytes are accepted, and the parsed sheet stands for the sheet that they say
 pub record Accepts (s : List ℕ) (q : Parsing) : Type 0 where

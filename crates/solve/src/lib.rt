@@ -1,14 +1,14 @@
 // The search at given sizes: consistent codes that keep to some decided ones, or that there are none.
-use knowledge::MARK_WORDS;
+use knowledge::MARK_HALVES;
 use knowledge::NO_CODE_LEFT;
 use knowledge::single;
+use layout::Parsed;
 use prelude::BYTE_VALUES;
 use prelude::MOST_CODES;
 use prelude::MOST_SORTS;
 use prelude::MOST_TERMS;
 use prelude::UNDECIDED;
 use prelude::wide;
-use sheet::Parsed;
 ghost use mathlib.Core.Bool.{true, false};
 ghost use mathlib.Core.Path.{_≡_};
 ghost use Prim.Native.Nat.{_<_, _≤_};
@@ -17,7 +17,7 @@ ghost use Rattle.prelude.specs.Limits.{mostCodes, undecided};
 ghost use Rattle.prelude.specs.Tests.{Decides};
 ghost use Rattle.prelude.specs.Lists.{at};
 ghost use Rattle.logic.specs.Problem.{Dead};
-ghost use Rattle.sheet.specs.Packed.{view};
+ghost use Rattle.layout.specs.Packed.{view};
 ghost use Rattle.consistency.specs.Searchable.{Searchable, SmallSizes};
 ghost use Rattle.knowledge.specs.Knows.{Bit};
 ghost use Rattle.propagate.specs.Propagated.{Knowing};
@@ -47,7 +47,7 @@ pub struct Visit {
     pub codes: [u8; BYTE_VALUES],
     pub term: usize,
     pub size: usize,
-    pub word: u16,
+    pub mask: u16,
     pub fresh: usize,
     pub used: [u8; MOST_CODES],
 }
@@ -59,14 +59,14 @@ struct Settled {
 }
 
 // Whether a code is worth trying.
-pub fn worth(size: usize, word: u16, fresh: usize, flags: [u8; MOST_CODES], v: usize) -> bool
+pub fn worth(size: usize, mask: u16, fresh: usize, flags: [u8; MOST_CODES], v: usize) -> bool
     requires { ⌜ size ≤ mostCodes ⌝ }
-    ensures { λ r. ⌜ Decides r (Worth size word fresh flags v) ⌝ }
+    ensures { λ r. ⌜ Decides r (Worth size mask fresh flags v) ⌝ }
 {
     if size <= v {
         return false;
     }
-    if struck(word, v) {
+    if struck(mask, v) {
         return false;
     }
     if v <= fresh {
@@ -90,15 +90,15 @@ pub fn plan(p: Parsed, sizes: [u8; MOST_SORTS], decided: [u8; BYTE_VALUES], term
     requires { ⌜ Searchable p ⌝ }
     requires { ⌜ SmallSizes p (at sizes) ⌝ }
     requires { ⌜ (term < p .terms) × (at decided term ≡ undecided) ⌝ }
-    ensures { λ r. ⌜ Planned (view p) (at sizes) (at decided) (r .dead) term (r .size) (r .word) (r .fresh) (r .used) ⌝ }
+    ensures { λ r. ⌜ Planned (view p) (at sizes) (at decided) (r .dead) term (r .size) (r .mask) (r .fresh) (r .used) ⌝ }
 {
     let k = propagate::begin(p);
-    let o = propagate::propagate(p, sizes, decided, &k.labels, &k.words, &k.marks);
+    let o = propagate::propagate(p, sizes, decided, &k.labels, &k.masks, &k.marks);
     if o.dead {
         return leaf(true, false, decided);
     }
-    let words = o.words;
-    branch(p, sizes, decided, words, term)
+    let masks = o.masks;
+    branch(p, sizes, decided, masks, term)
 }
 
 // Consistent codes at these sizes that keep to the decided ones, or that there are none. The weights say how often, and how lately,
@@ -114,15 +114,15 @@ pub fn solve(
     ensures { λ r. ⌜ Solved (view p) (at sizes) (at decided) (r .found) (at (r .codes)) ⌝ }
 {
     let k = propagate::begin(p);
-    descend(p, sizes, decided, &k.labels, &k.words, &k.marks, weights)
+    descend(p, sizes, decided, &k.labels, &k.masks, &k.marks, weights)
 }
 
 // Whether a code is struck out.
-fn struck(word: u16, v: usize) -> bool
+fn struck(mask: u16, v: usize) -> bool
     requires { ⌜ v < mostCodes ⌝ }
-    ensures { λ r. ⌜ Decides r (Bit word v) ⌝ }
+    ensures { λ r. ⌜ Decides r (Bit mask v) ⌝ }
 {
-    (word >> v) % 2 == 1
+    (mask >> v) % 2 == 1
 }
 
 // The codes that decided terms of a sort have, as flags.
@@ -160,16 +160,16 @@ fn fresh(flags: [u8; MOST_CODES], size: usize) -> usize
 }
 
 // The codes of all terms, where each is decided or has one code left.
-fn settle(p: Parsed, decided: [u8; BYTE_VALUES], words: [u16; MOST_TERMS]) -> Settled
+fn settle(p: Parsed, decided: [u8; BYTE_VALUES], masks: [u16; MOST_TERMS]) -> Settled
     requires { ⌜ Searchable p ⌝ }
-    ensures { λ r. ⌜ Settles (view p) (at decided) words (r .term) (r .codes) ⌝ }
+    ensures { λ r. ⌜ Settles (view p) (at decided) masks (r .term) (r .codes) ⌝ }
 {
     let mut codes = [0u8; BYTE_VALUES];
     let mut i: usize = 0;
     while i < p.terms {
         let d = decided[i];
         if d == UNDECIDED {
-            let v = single(words[i]);
+            let v = single(masks[i]);
             if MOST_CODES <= v {
                 return Settled { term: i, codes };
             }
@@ -184,11 +184,11 @@ fn settle(p: Parsed, decided: [u8; BYTE_VALUES], words: [u16; MOST_TERMS]) -> Se
 
 // ---- Which term to branch on: no promise rests on these.
 
-// The words of the sorts with a code marked; UNDECIDED marks none.
-fn with_code(words: [u16; MOST_SORTS], sort: u8, code: u8) -> [u16; MOST_SORTS] {
+// The masks of the sorts with a code marked; UNDECIDED marks none.
+fn with_code(masks: [u16; MOST_SORTS], sort: u8, code: u8) -> [u16; MOST_SORTS] {
     let s = wide(sort);
     let v = wide(code);
-    let mut more = words;
+    let mut more = masks;
     if s < MOST_SORTS {
         if v < MOST_CODES {
             more[s] = more[s] | (1u16 << v);
@@ -197,29 +197,29 @@ fn with_code(words: [u16; MOST_SORTS], sort: u8, code: u8) -> [u16; MOST_SORTS] 
     more
 }
 
-fn word_of(words: [u16; MOST_SORTS], sort: u8) -> u16 {
+fn mask_of(masks: [u16; MOST_SORTS], sort: u8) -> u16 {
     let s = wide(sort);
-    if s < MOST_SORTS { words[s] } else { 0 }
+    if s < MOST_SORTS { masks[s] } else { 0 }
 }
 
 // The codes that decided terms have in each sort: bit v for code v.
-fn used_words(p: Parsed, decided: [u8; BYTE_VALUES]) -> [u16; MOST_SORTS]
+fn used_masks(p: Parsed, decided: [u8; BYTE_VALUES]) -> [u16; MOST_SORTS]
     requires { ⌜ Searchable p ⌝ }
 {
-    let mut words = [0u16; MOST_SORTS];
+    let mut masks = [0u16; MOST_SORTS];
     let mut i: usize = 0;
     while i < p.terms {
-        let more = with_code(words, p.sort[i], decided[i]);
-        words = more;
+        let more = with_code(masks, p.sort[i], decided[i]);
+        masks = more;
         i += 1;
     }
-    words
+    masks
 }
 
 // How good it is to branch on a term: its weight and how much it is tied to others, per code to try; of the codes not in use one alone is
 // tried. 0 where it has at most one code left.
-fn score(word: u16, used: u16, degree: u16, weight: u16) -> u32 {
-    let left = word ^ NO_CODE_LEFT;
+fn score(mask: u16, used: u16, degree: u16, weight: u16) -> u32 {
+    let left = mask ^ NO_CODE_LEFT;
     if u16::count_ones(left) < 2 {
         return 0;
     }
@@ -239,19 +239,19 @@ fn choose<'a>(
     p: Parsed,
     decided: [u8; BYTE_VALUES],
     labels: &'a [u8; MOST_TERMS],
-    words: &'a [u16; MOST_TERMS],
+    masks: &'a [u16; MOST_TERMS],
     degree: &'a [u16; MOST_TERMS],
     weights: &[u16; MOST_TERMS],
 ) -> usize
     requires { ⌜ Searchable p ⌝ }
 {
-    let used = used_words(p, decided);
+    let used = used_masks(p, decided);
     let mut best: usize = MOST_TERMS;
     let mut high: u32 = 0;
     let mut i: usize = 0;
     while i < p.terms {
         if decided[i] == UNDECIDED && wide(labels[i]) == i {
-            let n = score(words[i], word_of(used, p.sort[i]), degree[i], weights[i]);
+            let n = score(masks[i], mask_of(used, p.sort[i]), degree[i], weights[i]);
             if high < n {
                 best = i;
                 high = n;
@@ -289,14 +289,14 @@ fn branch(
     p: Parsed,
     sizes: [u8; MOST_SORTS],
     decided: [u8; BYTE_VALUES],
-    words: [u16; MOST_TERMS],
+    masks: [u16; MOST_TERMS],
     term: usize,
 ) -> Visit
     requires { ⌜ Searchable p ⌝ }
     requires { ⌜ SmallSizes p (at sizes) ⌝ }
-    requires { ⌜ NeverStruck (view p) (at sizes) (at decided) words ⌝ }
+    requires { ⌜ NeverStruck (view p) (at sizes) (at decided) masks ⌝ }
     requires { ⌜ (term < p .terms) × (at decided term ≡ undecided) ⌝ }
-    ensures { λ r. ⌜ Planned (view p) (at sizes) (at decided) (r .dead) term (r .size) (r .word) (r .fresh) (r .used) ⌝ }
+    ensures { λ r. ⌜ Planned (view p) (at sizes) (at decided) (r .dead) term (r .size) (r .mask) (r .fresh) (r .used) ⌝ }
     ensures { λ r. ⌜ (r .dead ≡ false) × (r .found ≡ false) × (r .term ≡ term) ⌝ }
 {
     let sort = p.sort[term];
@@ -304,14 +304,14 @@ fn branch(
     let size = wide(sizes[s]);
     let flags = codes_in_use(p, decided, sort);
     let first = fresh(flags, size);
-    let word = words[term];
+    let mask = masks[term];
     Visit {
         dead: false,
         found: false,
         codes: [0u8; BYTE_VALUES],
         term,
         size,
-        word,
+        mask,
         fresh: first,
         used: flags,
     }
@@ -327,7 +327,7 @@ fn leaf(dead: bool, found: bool, codes: [u8; BYTE_VALUES]) -> Visit
         codes,
         term: 0,
         size: 0,
-        word: 0,
+        mask: 0,
         fresh: 0,
         used: [0u8; MOST_CODES],
     }
@@ -350,24 +350,24 @@ fn node<'a>(
     requires { ⌜ SmallSizes p (at sizes) ⌝ }
     requires { ⌜ (dead ≡ true → Dead (view p) (at sizes) (at decided)) ⌝ }
     requires { ⌜ NeverStruck (view p) (at sizes) (at decided) (now struck) ⌝ }
-    ensures { λ r. ⌜ Node (view p) (at sizes) (at decided) (r .dead) (r .found) (at (r .codes)) (r .term) (r .size) (r .word) (r .fresh) (r .used) ⌝ }
+    ensures { λ r. ⌜ Node (view p) (at sizes) (at decided) (r .dead) (r .found) (at (r .codes)) (r .term) (r .size) (r .mask) (r .fresh) (r .used) ⌝ }
 {
     let none = [0u8; BYTE_VALUES];
     if dead {
         count_failure(weights, group);
         return leaf(true, false, none);
     }
-    let words = *struck;
+    let masks = *struck;
     let term = choose(p, decided, labels, struck, degree, weights);
     if term < p.terms {
         if decided[term] == UNDECIDED {
-            return branch(p, sizes, decided, words, term);
+            return branch(p, sizes, decided, masks, term);
         }
     }
-    let s = settle(p, decided, words);
+    let s = settle(p, decided, masks);
     let left = s.term;
     if left < p.terms {
-        return branch(p, sizes, decided, words, left);
+        return branch(p, sizes, decided, masks, left);
     }
     let codes = s.codes;
     if consistency::consistent(p, sizes, codes) {
@@ -382,16 +382,16 @@ fn descend<'a>(
     sizes: [u8; MOST_SORTS],
     decided: [u8; BYTE_VALUES],
     labels: &'a [u8; MOST_TERMS],
-    words: &'a [u16; MOST_TERMS],
-    marks: &'a [u64; MARK_WORDS],
+    masks: &'a [u16; MOST_TERMS],
+    marks: &'a [u64; MARK_HALVES],
     weights: &mut [u16; MOST_TERMS],
 ) -> Solution
     requires { ⌜ Searchable p ⌝ }
     requires { ⌜ SmallSizes p (at sizes) ⌝ }
-    requires { ⌜ Knowing (view p) (at sizes) (at decided) (now labels) (now words) (now marks) ⌝ }
+    requires { ⌜ Knowing (view p) (at sizes) (at decided) (now labels) (now masks) (now marks) ⌝ }
     ensures { λ r. ⌜ Solved (view p) (at sizes) (at decided) (r .found) (at (r .codes)) ⌝ }
 {
-    let o = propagate::propagate(p, sizes, decided, labels, words, marks);
+    let o = propagate::propagate(p, sizes, decided, labels, masks, marks);
     let n = node(
         p,
         sizes,
@@ -399,7 +399,7 @@ fn descend<'a>(
         o.dead,
         o.group,
         &o.labels,
-        &o.words,
+        &o.masks,
         &o.degree,
         weights,
     );
@@ -415,14 +415,14 @@ fn descend<'a>(
     }
     let term = n.term;
     let size = n.size;
-    let word = n.word;
+    let mask = n.mask;
     let first = n.fresh;
     let flags = n.used;
     let mut v: usize = 0;
     while v < size {
-        if worth(size, word, first, flags, v) {
+        if worth(size, mask, first, flags, v) {
             let next = decide(decided, term, v);
-            let r = descend(p, sizes, next, &o.labels, &o.words, &o.marks, weights);
+            let r = descend(p, sizes, next, &o.labels, &o.masks, &o.marks, weights);
             if r.found {
                 return r;
             }

@@ -11,7 +11,7 @@ use Rattle.logic.specs.Sheet.{Sheet, boundAt}
 use Rattle.prelude.specs.Tests.{within, every}
 use Rattle.prelude.specs.Lists.{at, sumTo}
 use Rattle.prelude.proofs.Tests.{and-no, true-within, every-more, false-every, and-first}
-use Rattle.sheet.specs.declared.Parsed.{Parsed}
+use Rattle.layout.specs.declared.Parsed.{Parsed}
 use Rattle.tables.specs.Tests.{inBounds}
 use Rattle.tables.specs.Parts.{Packs}
 use Rattle.tables.proofs.Packing.{packs-views}

@@ -10,7 +10,7 @@ use Rattle.logic.specs.Sheet.{Sheet, symbolAt}
 use Rattle.prelude.specs.Tests.{every}
 use Rattle.prelude.specs.Lists.{at}
 use Rattle.prelude.proofs.Tests.{every-more, false-every}
-use Rattle.sheet.specs.declared.Parsed.{Parsed}
+use Rattle.layout.specs.declared.Parsed.{Parsed}
 use Rattle.tables.specs.Layout.{cells, offset}
 use Rattle.tables.specs.Tests.{entriesRight}
 use Rattle.tables.specs.Parts.{width, CellsOf, Laying}

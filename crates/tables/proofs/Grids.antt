@@ -1,6 +1,6 @@
 -- A table after one cell was set; a table written row by row holds the cells of its grid.
 use Prim.Native.Nat.{ℕ, zero, suc, _+_, _*_, _≤_, _<_}
-use native.Mathlib.Nat.{not-suc-le-zero, suc-mul, mul-one, mul-le-mul-right}
+use native.Mathlib.Nat.{not-suc-le-zero, suc-mul, mul-one}
 use native.Mathlib.Decide.{decLt, ℕ-discrete}
 use native.Mathlib.Numerals.{add-one}
 use native.Mathlib.Omega.{arith}
@@ -16,7 +16,7 @@ use Rattle.prelude.specs.Tests.{Each}
 use Rattle.prelude.specs.Lists.{at, firsts}
 use Rattle.prelude.proofs.Lists.{length-firsts, at-firsts}
 use Rattle.logic.specs.Structure.{Structure, InSorts}
-use Rattle.sheet.specs.Packed.{first, second}
+use Rattle.layout.specs.Packed.{first, second}
 use Rattle.tables.specs.Layout
 use Rattle.tables.specs.Layout.{place, tableBytes}
 use Rattle.tables.specs.Parts.{width}
@@ -55,13 +55,6 @@ cell-more d start n f k h l =
 
 pub length-row : (d : List ℕ) (start n : ℕ) (f : ℕ → ℕ) → start + n ≤ length d → length (paste d start (firsts n f) n) ≡ length d
 length-row d start n f h = length-paste d start (firsts n f) n h (omega (arith, length-firsts n f))
-
--- the next row lies in the table
-pub next-row : (r rows columns start : ℕ) → r < rows → start ≡ r * columns → start + columns ≤ rows * columns
-next-row r rows columns start h e = omega (arith, suc-mul r columns, mul-le-mul-right {m = suc r} {n = rows} columns h)
-
-pub row-start : (r columns start : ℕ) → start ≡ r * columns → start + columns ≡ (r + 1) * columns
-row-start r columns start e = rw (add-one r) (omega (arith, suc-mul r columns))
 
 -- one more row is written
 pub row-more : (d : List ℕ) (cells : List (List ℕ)) (r columns start : ℕ) → start + columns ≤ length d → take start d ≡ grid cells r columns → take (start + columns) (paste d start (firsts columns (cell cells r)) columns) ≡ grid cells (r + 1) columns

@@ -4,16 +4,15 @@ use native.Mathlib.Numerals.{add-one}
 use native.Mathlib.Decide.{decLt}
 use native.Mathlib.Omega.{arith}
 use mathlib.Core.Path.{_≡_, ap, _∙_}
-use mathlib.Core.Logic.{inl, inr}
 use mathlib.Core.List.{List}
 use lib.ListN.{length, set, replicate}
 use lib.Seq.{getD-set-same, getD-set-other}
 use Rattle.logic.specs.Sheet.{Sheet, symbolAt}
 use Rattle.prelude.specs.Lists.{at}
-use Rattle.prelude.proofs.Lists.{sumTo-same, at-set, at-zeros}
+use Rattle.prelude.proofs.Lists.{sumTo-same, at-zeros, at-set-most}
 use Rattle.logic.specs.WellFormed.{WellFormed}
-use Rattle.sheet.specs.Packed.{packed}
-use Rattle.sheet.specs.declared.Parsed.{Parsed}
+use Rattle.layout.specs.Packed.{packed}
+use Rattle.layout.specs.declared.Parsed.{Parsed}
 use Rattle.tables.specs.Layout.{cells, offset}
 use Rattle.tables.specs.Parts.{Packs, countableCells, countableBytes, CellsOf, SmallOffsets, Extents}
 use Rattle.tables.proofs.Cells.{cells-same}
@@ -32,10 +31,6 @@ pub record OffsetsTo (p : Parsed) (size : ℕ → ℕ) (f : ℕ) (offsets : List
   pub here : at offsets f ≤ 8 + countableCells * f
   pub small : SmallOffsets offsets
 
--- numbers stay small after a small one is stored
-set-small : (l : List ℕ) (i v b : ℕ) → ((j : ℕ) → at l j ≤ b) → v ≤ b → (j : ℕ) → at (set l i v) j ≤ b
-set-small l i v b h e j = elim (at-set l i v j) [ inl x ↦ rw x (h j) | inr x ↦ rw (x .1) e ]
-
 pub offsets-none : (p : Parsed) (size : ℕ → ℕ) → p .sorts ≤ 8 → OffsetsTo p size 0 (set (replicate 65 0) 0 (p .sorts))
 unfolding packed
 offsets-none p size h =
@@ -45,7 +40,7 @@ offsets-none p size h =
           let s : p .sorts ≡ length (sh .bounds) = ap (λ (q : Parsed). q .sorts) (k .same) in
           rw (e, s) (omega arith);
       here = omega arith;
-      small = set-small (replicate 65 0) 0 (p .sorts) countableBytes (λ j. rw (at-zeros 65 j) (omega arith)) (omega arith);
+      small = λ j. at-set-most (replicate 65 0) 0 (p .sorts) countableBytes j (rw (at-zeros 65 j) (omega arith)) (omega arith);
     }
 
 pub offsets-more : (p : Parsed) (size : ℕ → ℕ) (f : ℕ) (offsets : List ℕ) (many : ℕ) → OffsetsTo p size f offsets → length offsets ≡ 65 → f < p .symbols → p .symbols ≤ 64 → CellsOf p size f many → OffsetsTo p size (f + 1) (set offsets (f + 1) (at offsets f + many))
@@ -63,7 +58,7 @@ offsets-more p size f offsets many o n h l c =
                 rw (e, now, add-one f) (omega (arith, o .offset sh k f (omega arith), c .cells sh k there))
           ];
       here = rw now big;
-      small = set-small offsets (f + 1) v countableBytes (o .small) (omega arith);
+      small = λ j. at-set-most offsets (f + 1) v countableBytes j (o .small j) (omega arith);
     }
 
 pub offsets-all : (p : Parsed) (size : ℕ → ℕ) (offsets : List ℕ) → OffsetsTo p size (p .symbols) offsets → Extents p size offsets

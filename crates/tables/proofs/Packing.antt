@@ -5,15 +5,15 @@ use lib.ListN.{length}
 use Rattle.logic.specs.Sheet.{Sheet, symbolAt}
 use Rattle.prelude.specs.Tests.{Each}
 use Rattle.prelude.specs.Lists.{at}
-use Rattle.sheet.specs.Packed.{view, first, second}
-use Rattle.sheet.specs.Views.{Views}
-use Rattle.sheet.specs.declared.Parsed.{Parsed}
-use Rattle.sheet.proofs.Pairs.{each-weaken}
-use Rattle.sheet.proofs.View.{packed-views}
+use Rattle.layout.specs.Packed.{view, first, second}
+use Rattle.layout.specs.Views.{Views}
+use Rattle.layout.specs.declared.Parsed.{Parsed}
+use Rattle.layout.proofs.AtMostTwo.{each-weaken}
+use Rattle.layout.proofs.View.{packed-views}
 use Rattle.tables.specs.Layout.{cells}
 use Rattle.tables.specs.Parts.{Packs, width}
 use Rattle.tables.proofs.Widths.{cells-by-width}
-use Rattle.sheet.proofs.Pack.{contents}
+use Rattle.layout.proofs.Pack.{contents}
 
 -- What a parsed sheet holds of the sheet that it packs.
 module _ (sh : Sheet) (p : Parsed) (k : Packs sh p) where

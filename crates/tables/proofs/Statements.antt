@@ -8,8 +8,8 @@ use lib.ListN.{length}
 use lib.Dec.{eqb}
 use Rattle.logic.specs.Sheet.{Sheet, literalAt}
 use Rattle.prelude.specs.Lists.{at}
-use Rattle.sheet.specs.Packed.{bit}
-use Rattle.sheet.specs.declared.Parsed.{Parsed}
+use Rattle.layout.specs.Packed.{bit}
+use Rattle.layout.specs.declared.Parsed.{Parsed}
 use Rattle.tables.specs.Tests.{agree, holds, statements}
 use Rattle.tables.specs.declared.Judgement.the-variants.{Fits, Broken}
 use Rattle.tables.proofs.Laid.{statements-fit, statements-broken}

@@ -7,7 +7,7 @@ use mathlib.Core.Path.{_≡_, refl, ap, ap₂, sym, _∙_}
 use mathlib.Core.List.{List, [], _∷_, _++_, map, append-assoc}
 use lib.ListN.{length, getD, take, length-append, length-map, List·getD-append}
 use lib.Seq.{getD-append-add, take-append-add, take-at, take-all, ext-getD}
-use Rattle.logic.specs.Sheet.{Sheet, Symbol, boundAt, symbolAt, termAt}
+use Rattle.logic.specs.Sheet.{Sheet, Symbol, boundAt, symbolAt, termAt, noSymbol}
 use Rattle.prelude.specs.Lists.{at, sumTo, firsts, run}
 use Rattle.prelude.proofs.Lists.{length-firsts, at-firsts, sumTo-monotone, at-map}
 use Rattle.logic.specs.Structure.{Structure, InSorts, Interprets, code, Satisfies, Bounded}
@@ -174,14 +174,10 @@ extent-at-ceilings sh w size b = extent-monotone sh w size (λ s. boundAt sh s .
 
 -- The tables of a structure, for a well-formed sheet.
 module _ (M : Structure) (sh : Sheet) (w : WellFormed sh) where
-  symbol₀ : Symbol
-  symbol₀ = record { result = 0; params = [] }
-
   pub length-encoded : length (encoded M sh) ≡ extent sh (M .size)
-  unfolding symbol₀
   length-encoded =
       length-append (firsts (length (sh .bounds)) (M .size)) (tablesFrom M 0 (sh .symbols))
-      ∙ omega (arith, length-firsts (length (sh .bounds)) (M .size), length-tablesFrom M symbol₀ 0 (sh .symbols))
+      ∙ omega (arith, length-firsts (length (sh .bounds)) (M .size), length-tablesFrom M noSymbol 0 (sh .symbols))
 
   -- the sizes stand first
   pub encoded-size : (s : ℕ) → s < length (sh .bounds) → at (encoded M sh) s ≡ M .size s
@@ -197,14 +193,13 @@ module _ (M : Structure) (sh : Sheet) (w : WellFormed sh) where
 
   -- each symbol's table stands at its offset
   pub encoded-table : (f k : ℕ) → f < length (sh .symbols) → k < cells (M .size) (symbolAt sh f .params) → at (encoded M sh) (offset sh (M .size) f + k) ≡ at (tableBytes M f (symbolAt sh f .params)) k
-  unfolding symbol₀
   encoded-table f k h l =
       let front = firsts (length (sh .bounds)) (M .size) in
       let e : offset sh (M .size) f + k ≡ length front + (sumTo f (λ g. cells (M .size) (symbolAt sh g .params)) + k) = omega (arith, length-firsts (length (sh .bounds)) (M .size)) in
       let z : 0 + f ≡ f = omega arith in
       ap (at (encoded M sh)) e
       ∙ getD-append-add front (tablesFrom M 0 (sh .symbols)) (sumTo f (λ g. cells (M .size) (symbolAt sh g .params)) + k) 0
-      ∙ tablesFrom-at M symbol₀ 0 (sh .symbols) f k h l
+      ∙ tablesFrom-at M noSymbol 0 (sh .symbols) f k h l
       ∙ ap (λ (x : ℕ). at (tableBytes M x (symbolAt sh f .params)) k) z
 
   -- The bytes one stretch after the other: the sizes, then the table of each symbol at its offset, up to the extent.
@@ -217,12 +212,11 @@ module _ (M : Structure) (sh : Sheet) (w : WellFormed sh) where
   encoded-sizes = take-at (firsts (length (sh .bounds)) (M .size)) (tablesFrom M 0 (sh .symbols)) (length (sh .bounds)) (length-firsts (length (sh .bounds)) (M .size))
 
   pub encoded-more : (f : ℕ) → f < length (sh .symbols) → take (offset sh (M .size) (suc f)) (encoded M sh) ≡ take (offset sh (M .size) f) (encoded M sh) ++ tableBytes M f (symbolAt sh f .params)
-  unfolding symbol₀
   encoded-more f h =
       let sizes : List ℕ = firsts (length (sh .bounds)) (M .size) in
       let many : ℕ → ℕ = λ k. sumTo k (λ g. cells (M .size) (symbolAt sh g .params)) in
       taken (many (suc f))
-      ∙ ap (λ (l : List ℕ). sizes ++ l) (tablesFrom-more M symbol₀ 0 (sh .symbols) f f h (omega arith))
+      ∙ ap (λ (l : List ℕ). sizes ++ l) (tablesFrom-more M noSymbol 0 (sh .symbols) f f h (omega arith))
       ∙ sym (append-assoc sizes (take (many f) (tablesFrom M 0 (sh .symbols))) (tableBytes M f (symbolAt sh f .params)))
       ∙ ap (λ (l : List ℕ). l ++ tableBytes M f (symbolAt sh f .params)) (sym (taken (many f)))
 

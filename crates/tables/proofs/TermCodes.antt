@@ -13,8 +13,8 @@ use Rattle.prelude.proofs.Lists.{map-each, at-zeros}
 use Rattle.logic.specs.Structure.{code}
 use Rattle.logic.proofs.Meaning.{code-is}
 use Rattle.logic.proofs.Codes.{code-past}
-use Rattle.sheet.specs.Packed.{first, second}
-use Rattle.sheet.specs.declared.Parsed.{Parsed}
+use Rattle.layout.specs.Packed.{first, second}
+use Rattle.layout.specs.declared.Parsed.{Parsed}
 use Rattle.tables.specs.Layout.{place, offset, decoded}
 use Rattle.tables.specs.Parts.{width, Laying}
 use Rattle.tables.proofs.Cells.{place-same}

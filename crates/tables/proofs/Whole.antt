@@ -12,7 +12,7 @@ use Rattle.prelude.specs.Tests.{within, every}
 use Rattle.prelude.specs.Lists.{at}
 use Rattle.prelude.proofs.Tests.{and-no, every-same, and-first}
 use Rattle.prelude.proofs.Lists.{sumTo-same}
-use Rattle.sheet.specs.declared.Parsed.{Parsed}
+use Rattle.layout.specs.declared.Parsed.{Parsed}
 use Rattle.tables.specs.Layout.{offset, extent}
 use Rattle.tables.specs.Tests.{sizesRight, entriesRight, wellLaid, inBounds}
 use Rattle.tables.specs.Parts.{Packs, Limited, Extents, Laying}

@@ -8,7 +8,7 @@ use mathlib.Core.List.{List, [], _∷_, map}
 use lib.ListN.{length}
 use borrow.Author.Tests.{lt-ltb}
 use Rattle.prelude.specs.Tests.{Each}
-use Rattle.sheet.specs.Packed.{first, second}
+use Rattle.layout.specs.Packed.{first, second}
 use Rattle.tables.specs.Layout.{cells, place}
 use Rattle.tables.specs.Parts.{countableCells, width}
 

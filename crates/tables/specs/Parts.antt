@@ -3,15 +3,15 @@
 use Prim.Native.Nat.{ℕ, _+_, _*_, _≤_, _<_}
 use mathlib.Core.Path.{_≡_}
 use mathlib.Core.List.{List}
+use mathlib.Core.Bool.{cond}
 use lib.ListN.{length}
 use lib.Dec.{ltb}
 use Rattle.logic.specs.Sheet.{Sheet, symbolAt}
-use Rattle.prelude.specs.Tests.{if}
 use Rattle.prelude.specs.Lists.{at}
 use Rattle.prelude.specs.Limits.{mostSorts, mostSymbols, mostTerms, mostLiterals}
 use Rattle.logic.specs.WellFormed.{WellFormed}
-use Rattle.sheet.specs.Packed.{packed}
-use Rattle.sheet.specs.declared.Parsed.{Parsed}
+use Rattle.layout.specs.Packed.{packed}
+use Rattle.layout.specs.declared.Parsed.{Parsed}
 use Rattle.tables.specs.Layout.{cells, offset}
 
 -- the parsed sheet stands for an accepted sheet
@@ -36,7 +36,7 @@ countableBytes = mostSorts + mostSymbols * countableCells
 
 -- how many rows or columns a parameter gives a table: the size of its sort, 1 where it is missing
 abbrev pub width : (ℕ → ℕ) → ℕ → ℕ
-width size s = if (ltb s mostSorts) (size s) 1
+width size s = cond (ltb s mostSorts) (size s) 1
 
 pub record CellsOf (p : Parsed) (size : ℕ → ℕ) (f r : ℕ) : Type 0 where
   pub cells : (sh : Sheet) → Packs sh p → f < length (sh .symbols) → r ≡ cells size (symbolAt sh f .params)

@@ -1,12 +1,12 @@
 -- The interface: the tests of judge (docs/FORMAT.md, "The questions"): whether tables are well laid, their sizes in bounds, and the
 -- statements satisfied.
 use Prim.Native.Nat.{ℕ, suc, _+_}
-use mathlib.Core.Bool.{Bool, true, false, not, _&&_}
+use mathlib.Core.Bool.{Bool, true, false, not, _&&_, cond}
 use mathlib.Core.List.{List, [], _∷_}
 use lib.ListN.{length}
 use lib.Dec.{leb, ltb, eqb}
 use Rattle.logic.specs.Sheet.{Sheet, Literal, boundAt, symbolAt}
-use Rattle.prelude.specs.Tests.{if, within, every}
+use Rattle.prelude.specs.Tests.{within, every}
 use Rattle.prelude.specs.Lists.{at, sumTo}
 use Rattle.prelude.specs.Limits.{mostCodes}
 use Rattle.tables.specs.Layout.{cells, offset, extent}
@@ -42,4 +42,4 @@ holds c l = agree (l .equal) (eqb (c (l .left)) (c (l .right)))
 -- the first broken one of some statements, the first of which has number k
 abbrev pub statements : (ℕ → ℕ) → ℕ → List Literal → Judgement
 statements c k [] = Fits
-statements c k (l ∷ ls) = if (holds c l) (statements c (suc k) ls) (Broken k)
+statements c k (l ∷ ls) = cond (holds c l) (statements c (suc k) ls) (Broken k)

@@ -1,11 +1,11 @@
 // The layout of tables: lengths, offsets and cells; the tests of judge, and one table written.
+use layout::Parsed;
 use prelude::BYTE_VALUES;
 use prelude::GREATEST_SIZE;
 use prelude::MOST_CODES;
 use prelude::MOST_SORTS;
 use prelude::MOST_SYMBOLS;
 use prelude::wide;
-use sheet::Parsed;
 ghost use Prim.Native.Nat.{ℕ, _+_, _*_, _≤_, _<_};
 ghost use mathlib.Core.Path.{_≡_};
 ghost use mathlib.Core.Bool.{_&&_};

@@ -3,17 +3,6 @@
 use crate::keys::KEY;
 use crate::keys::first_broken;
 use crate::keys::key_of;
-use crate::numbers::byte;
-use crate::numbers::larger;
-use crate::numbers::plus;
-use crate::numbers::smaller;
-use crate::numbers::wide;
-use crate::plan::LITERALS;
-use crate::plan::MOST_SORTS;
-use crate::plan::PLAN;
-use crate::plan::SORTS;
-use crate::plan::count;
-use crate::plan::record_at;
 use crate::ranges::lists;
 use crate::ranges::sizes_at;
 use crate::ranges::within;
@@ -23,6 +12,17 @@ use crate::shape::capped;
 use crate::shape::first_tables;
 use crate::shape::shaped;
 use crate::shape::turn;
+use test_sheets::numbers::byte;
+use test_sheets::numbers::larger;
+use test_sheets::numbers::plus;
+use test_sheets::numbers::smaller;
+use test_sheets::numbers::wide;
+use test_sheets::plan::LITERALS;
+use test_sheets::plan::MOST_SORTS;
+use test_sheets::plan::PLAN;
+use test_sheets::plan::SORTS;
+use test_sheets::plan::count;
+use test_sheets::plan::record_at;
 
 // A sheet without an answer has a key that comes after every key.
 pub const NOTHING: u8 = 255;

@@ -1,15 +1,15 @@
 // Lists of sizes, one size for each sort and 0 for a sort that is not there: from 1 up to given tops, the last size fastest.
 ghost use Prim.Native.Nat.{_<_};
-use crate::numbers::byte;
-use crate::numbers::plus;
-use crate::numbers::times;
-use crate::numbers::wide;
-use crate::plan::MOST_SORTS;
-use crate::plan::PLAN;
-use crate::plan::Record;
-use crate::plan::SORTS;
-use crate::plan::TOTAL;
-use crate::plan::record_at;
+use test_sheets::numbers::byte;
+use test_sheets::numbers::plus;
+use test_sheets::numbers::times;
+use test_sheets::numbers::wide;
+use test_sheets::plan::MOST_SORTS;
+use test_sheets::plan::PLAN;
+use test_sheets::plan::Record;
+use test_sheets::plan::SORTS;
+use test_sheets::plan::TOTAL;
+use test_sheets::plan::record_at;
 
 // How many lists there are.
 pub fn lists(top: [u8; MOST_SORTS]) -> usize {

@@ -1,15 +1,15 @@
 // The tables of interpretations, plainly: their shape at given sizes, and an odometer over their cells.
-use crate::numbers::byte;
-use crate::numbers::plus;
-use crate::numbers::times;
-use crate::numbers::wide;
-use crate::plan::MOST_SORTS;
-use crate::plan::MOST_SYMBOLS;
-use crate::plan::PLAN;
-use crate::plan::SORTS;
-use crate::plan::SYMBOLS;
-use crate::plan::count;
-use crate::plan::record_at;
+use test_sheets::numbers::byte;
+use test_sheets::numbers::plus;
+use test_sheets::numbers::times;
+use test_sheets::numbers::wide;
+use test_sheets::plan::MOST_SORTS;
+use test_sheets::plan::MOST_SYMBOLS;
+use test_sheets::plan::PLAN;
+use test_sheets::plan::SORTS;
+use test_sheets::plan::SYMBOLS;
+use test_sheets::plan::count;
+use test_sheets::plan::record_at;
 
 // The most interpretations that are listed for one question on one sheet.
 pub const BUDGET: usize = 100000;

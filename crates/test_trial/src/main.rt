@@ -4,14 +4,14 @@ mod finds; // find is asked
 
 use test_listing::answer;
 use test_listing::apart;
-use test_listing::draw;
-use test_listing::encode;
-use test_listing::forces;
-use test_listing::judges;
-use test_listing::plan::PLAN;
 use test_listing::shape;
-use test_listing::slices;
-use test_listing::tally;
+use test_questions::forces;
+use test_questions::judges;
+use test_questions::slices;
+use test_questions::tally;
+use test_sheets::draw;
+use test_sheets::encode;
+use test_sheets::plan::PLAN;
 
 const SHEETS: usize = 4000;
 

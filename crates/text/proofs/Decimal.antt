@@ -3,7 +3,7 @@ use Prim.Native.Nat.{ℕ, zero, suc, _+_, _/_, _%_, _^_, _≤_, _<_}
 use native.Mathlib.Omega.{arith}
 use mathlib.Core.Path.{_≡_, refl, sym, ap, _∙_}
 use mathlib.Core.Bool.{Bool, true, false}
-use mathlib.Core.List.{List, [], _∷_, _++_, append-nil}
+use mathlib.Core.List.{List, [], _∷_, _++_, append-nil, append-assoc}
 use lib.ListN.{length, length-append}
 use lib.Dec.{ltb}
 use borrow.Author.Tests.{lt-ltb, le-ltb, ltb-true, ltb-false}
@@ -61,3 +61,11 @@ decimal-byte n h = decimal-length 3 n (omega arith) (omega arith)
 -- a number after a space
 pub length-spaced-one : (n : ℕ) → length (spaced (n ∷ [])) ≡ suc (length (decimal n))
 length-spaced-one n = ap (λ (l : List ℕ). suc (length l)) (append-nil (decimal n))
+
+pub spaced-byte : (n : ℕ) → n < 256 → length (spaced (n ∷ [])) ≤ 4
+spaced-byte n h = omega (arith, length-spaced-one n, decimal-byte n h)
+
+pub spaced-append : (s t : List ℕ) → spaced (s ++ t) ≡ spaced s ++ spaced t
+spaced-append [] t = refl
+spaced-append (x ∷ s) t =
+    ap (λ (l : List ℕ). (32 ∷ decimal x) ++ l) (spaced-append s t) ∙ sym (append-assoc (32 ∷ decimal x) (spaced s) (spaced t))

@@ -2,5 +2,5 @@ pub mod Pasted
 pub mod Decimal
 pub mod PutNumber
 pub mod Lines
-pub mod Cells
+pub mod Entries
 pub mod Hex

@@ -10,7 +10,7 @@ use lib.Seq.{take-length, drop-drop, drop-cons}
 use lib.Dec.{eqb}
 use borrow.Author.Tests.{eq-eqb, ne-eqb}
 use Rattle.bytes.specs.Bytes.{indexOf, slice}
-use Rattle.words.specs.Words.{blank, behind, wordAt, many}
+use Rattle.words.specs.Words.{blank, laterWords, wordAt, many}
 
 slice-whole : (from : ℕ) (s : List ℕ) → slice from (length s) s ≡ drop from s
 unfolding slice
@@ -21,13 +21,13 @@ module _ (s : List ℕ) (from e : ℕ) (h : e ≡ from + indexOf blank (slice fr
   ends = h ∙ ap (λ (l : List ℕ). from + indexOf blank l) (slice-whole from s)
 
   -- behind the blank at place e, and at the end of a line without one
-  pub behind-blank : drop (e + 1) s ≡ behind (drop from s)
+  pub behind-blank : drop (e + 1) s ≡ laterWords (drop from s)
   behind-blank =
       let i = indexOf blank (drop from s) in
       let q : e + 1 ≡ from + suc i = omega (arith, ends) in
       ap (λ (n : ℕ). drop n s) q ∙ sym (drop-drop (suc i) from s)
 
-  pub behind-end : e ≡ length s → drop e s ≡ behind (drop from s)
+  pub behind-end : e ≡ length s → drop e s ≡ laterWords (drop from s)
   behind-end l =
       drop-of-length-le s {i = e} (omega arith) ∙ sym (drop-of-length-le s {i = e + 1} (omega arith)) ∙ behind-blank
 
@@ -38,7 +38,7 @@ module _ (s : List ℕ) (from e : ℕ) (h : e ≡ from + indexOf blank (slice fr
       ap (λ (n : ℕ). take n (drop from s)) q ∙ ap (wordAt (drop from s)) (sym z) ∙ w
 
 -- one word further
-pub word-next : (s d d′ : List ℕ) (k i : ℕ) → i < k → d′ ≡ behind d → wordAt d (k - i) ≡ wordAt s k → wordAt d′ (k - (i + 1)) ≡ wordAt s k
+pub word-next : (s d d′ : List ℕ) (k i : ℕ) → i < k → d′ ≡ laterWords d → wordAt d (k - i) ≡ wordAt s k → wordAt d′ (k - (i + 1)) ≡ wordAt s k
 word-next s d d′ k i l b w =
     let q : k - i ≡ suc (k - (i + 1)) = omega arith in
     ap (λ (x : List ℕ). wordAt x (k - (i + 1))) b ∙ ap (wordAt d) (sym q) ∙ w

@@ -11,17 +11,17 @@ use Rattle.bytes.specs.Bytes.{indexOf}
 abbrev pub blank : ℕ
 blank = 32
 
--- what stands in front of the first blank, and what stands behind it
-abbrev pub front : List ℕ → List ℕ
-front line = take (indexOf blank line) line
+-- what stands in front of the first blank, and what stands after it
+abbrev pub firstWord : List ℕ → List ℕ
+firstWord line = take (indexOf blank line) line
 
-abbrev pub behind : List ℕ → List ℕ
-behind line = drop (suc (indexOf blank line)) line
+abbrev pub laterWords : List ℕ → List ℕ
+laterWords line = drop (suc (indexOf blank line)) line
 
 -- word k of a line, the first being word 0; empty where the line has fewer
 abbrev pub wordAt : List ℕ → ℕ → List ℕ
-wordAt line zero = front line
-wordAt line (suc k) = wordAt (behind line) k
+wordAt line zero = firstWord line
+wordAt line (suc k) = wordAt (laterWords line) k
 
 -- how many words a line has: one more than blanks
 abbrev pub many : List ℕ → ℕ

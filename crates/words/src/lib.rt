@@ -3,7 +3,7 @@ ghost use mathlib.Core.Path.{_≡_};
 ghost use Prim.Native.Nat.{_+_, _*_, _≤_, _<_, min};
 ghost use lib.ListN.{length, drop};
 ghost use Rattle.prelude.specs.Tests.{sameList};
-ghost use Rattle.words.specs.Words.{behind, wordAt, many, digitOf, isNumeral, numberOf, largest, Decoded};
+ghost use Rattle.words.specs.Words.{laterWords, wordAt, many, digitOf, isNumeral, numberOf, largest, Decoded};
 ghost use Rattle.words.specs.Complaints.{isWrong, wrongBytes, wrongNumber, wrongWord, wrongWords, complaintOf};
 
 // What is wrong with the words of a question; a word is named by its place, the verb being word 1.
@@ -97,7 +97,7 @@ pub fn number(word: &[u8]) -> usize
 // Where what stands behind the first blank at or behind a place starts.
 fn behind_word(line: &[u8], from: usize) -> usize
     requires { ⌜ from ≤ length (now line) ⌝ }
-    ensures { λ r. ⌜ (r ≤ length (now (line .entry))) × (drop r (now (line .entry)) ≡ behind (drop from (now (line .entry)))) ⌝ }
+    ensures { λ r. ⌜ (r ≤ length (now (line .entry))) × (drop r (now (line .entry)) ≡ laterWords (drop from (now (line .entry)))) ⌝ }
 {
     let end = bytes::scan::find(line, from, line.len(), b' ');
     if end == line.len() { end } else { end + 1 }

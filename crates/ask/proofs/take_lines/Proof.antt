@@ -20,38 +20,38 @@ loop-holds c = let m = c .before .before .before in (omega arith, m .pre .0, ref
 find-requires : tie.Need-find-requires Inv-loop μ-loop
 find-requires c κs = search needs
 
-sub-hold : tie.Need-sub-hold Inv-loop μ-loop
-sub-hold c = omega (arith, c .before .find .ensures .0)
+sub-append : tie.Need-sub-append Inv-loop μ-loop
+sub-append c = omega (arith, c .before .find .ensures .0)
 
-part-hold-start : tie.Need-part-hold-start Inv-loop μ-loop
-part-hold-start c = omega (arith, c .before .find .ensures .0, c .before .find .ensures .1)
+part-append-start : tie.Need-part-append-start Inv-loop μ-loop
+part-append-start c = omega (arith, c .before .find .ensures .0, c .before .find .ensures .1)
 
-part-hold-end : tie.Need-part-hold-end Inv-loop μ-loop
-part-hold-end c = omega (arith, c .before .find .ensures .0, c .before .find .ensures .1)
+part-append-end : tie.Need-part-append-end Inv-loop μ-loop
+part-append-end c = omega (arith, c .before .find .ensures .0, c .before .find .ensures .1)
 
-hold-requires : tie.Need-hold-requires Inv-loop μ-loop
-hold-requires c κs = let l = c .before .before .before .before .loop in omega (arith, l .inv .1, l .inv .2)
+append-requires : tie.Need-append-requires Inv-loop μ-loop
+append-requires c κs = let l = c .before .before .before .before .loop in omega (arith, l .inv .1, l .inv .2)
 
 same-length : tie.Need-same-length Inv-loop μ-loop
-same-length c = c .before .before .before .hold .kept .0 ∙ c .before .before .before .before .before .before .before .before .loop .inv .2
+same-length c = c .before .before .before .append .kept .0 ∙ c .before .before .before .before .before .before .before .before .loop .inv .2
 
 same-length-2 : tie.Need-same-length-2 Inv-loop μ-loop
 same-length-2 c = c .before .before .before .before .before .before .before .before .loop .inv .3
 
 returns : tie.Need-returns Inv-loop μ-loop
-returns c = let l = c .before .before .before .before .before .before .before .before .loop in omega (arith, l .inv .2, c .before .before .before .hold .ensures)
+returns c = let l = c .before .before .before .before .before .before .before .before .loop in omega (arith, l .inv .2, c .before .before .before .append .ensures)
 
 answer-held-requires : tie.Need-answer-held-requires Inv-loop μ-loop
-answer-held-requires c κs = let m = c .before .before .before .before .before .before .before .before .before .before .before .before .before .before in let l = c .before .before .before .before .before .before .before .before .before .before .loop in (omega (arith, c .before .before .before .before .before .hold .ensures, c .before .before .before .before .before .hold .kept .0), omega (arith, m .pre .1, l .inv .3))
+answer-held-requires c κs = let m = c .before .before .before .before .before .before .before .before .before .before .before .before .before .before in let l = c .before .before .before .before .before .before .before .before .before .before .loop in (omega (arith, c .before .before .before .before .before .append .ensures, c .before .before .before .before .before .append .kept .0), omega (arith, m .pre .1, l .inv .3))
 
 same-length-3 : tie.Need-same-length-3 Inv-loop μ-loop
-same-length-3 c = c .before .before .before .before .before .before .before .before .before .hold .kept .0 ∙ c .before .before .before .before .before .before .before .before .before .before .before .before .before .before .loop .inv .2
+same-length-3 c = c .before .before .before .before .before .before .before .before .before .append .kept .0 ∙ c .before .before .before .before .before .before .before .before .before .before .before .before .before .before .loop .inv .2
 
 same-length-4 : tie.Need-same-length-4 Inv-loop μ-loop
 same-length-4 c = c .before .before .before .answer-held .kept .1 .1 .0 ∙ c .before .before .before .before .before .before .before .before .before .before .before .before .before .before .loop .inv .3
 
 returns-2 : tie.Need-returns-2 Inv-loop μ-loop
-returns-2 c = let l = c .before .before .before .before .before .before .before .before .before .before .before .before .before .before .loop in omega (arith, l .inv .2, c .before .before .before .before .before .before .before .before .before .hold .ensures)
+returns-2 c = let l = c .before .before .before .before .before .before .before .before .before .before .before .before .before .before .loop in omega (arith, l .inv .2, c .before .before .before .before .before .before .before .before .before .append .ensures)
 
 add-from : tie.Need-add-from Inv-loop μ-loop
 add-from c = search needs
@@ -60,7 +60,7 @@ loop-less : tie.Need-loop-less Inv-loop μ-loop
 loop-less c = let l = c .before .before .before .before .before .before .before .before .before .before .before .before .before .before .loop in omega (arith, l .inv .0, c .before .before .before .before .before .before .before .before .before .before .before .before .find .ensures .0, c .before .before .before .before .before .before .before .before .before .before .before .before .find .ensures .1, c .before .before .before .before .before .before .if1 .left)
 
 loop-again : tie.Need-loop-again Inv-loop μ-loop
-loop-again c = let l = c .before .before .before .before .before .before .before .before .before .before .before .before .before .before .loop in (omega (arith, c .before .before .before .before .before .before .before .before .before .before .before .before .find .ensures .1, c .before .before .before .before .before .before .if1 .left), omega arith, c .before .before .before .before .before .before .before .before .before .hold .kept .0 ∙ l .inv .2, c .before .before .before .answer-held .kept .1 .1 .0 ∙ l .inv .3)
+loop-again c = let l = c .before .before .before .before .before .before .before .before .before .before .before .before .before .before .loop in (omega (arith, c .before .before .before .before .before .before .before .before .before .before .before .before .find .ensures .1, c .before .before .before .before .before .before .if1 .left), omega arith, c .before .before .before .before .before .before .before .before .before .append .kept .0 ∙ l .inv .2, c .before .before .before .answer-held .kept .1 .1 .0 ∙ l .inv .3)
 
 same-length-5 : tie.Need-same-length-5 Inv-loop μ-loop
 same-length-5 c = c .before .loop .inv .2
@@ -79,10 +79,10 @@ take-lines-spec =
     μ-loop
     loop-holds
     find-requires
-    sub-hold
-    part-hold-start
-    part-hold-end
-    hold-requires
+    sub-append
+    part-append-start
+    part-append-end
+    append-requires
     same-length
     same-length-2
     returns

@@ -1,6 +1,6 @@
 -- `congruence::closure` meets its contract: labels that are closed and in which the same statements hold name the groups.
 use Rattle.prelude.specs.Lists.{at}
-use Rattle.sheet.specs.Packed.{view}
+use Rattle.layout.specs.Packed.{view}
 use Rattle.congruence.proofs.Labels.{step-more}
 use Rattle.congruence.proofs.Sweeps.{labels-group, stated-kept}
 use borrow.Author.Needs.{needs}

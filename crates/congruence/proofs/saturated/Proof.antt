@@ -5,7 +5,7 @@ use Prim.Native.Nat.{ℕ, _≤_, _<_}
 use mathlib.Core.Path.{_≡_, sym, _∙_}
 use Rattle.prelude.specs.Lists.{at, sumTo}
 use Rattle.prelude.proofs.Lists.{sumTo-monotone, sumTo-equal}
-use Rattle.sheet.specs.Packed.{view}
+use Rattle.layout.specs.Packed.{view}
 use Rattle.congruence.specs.Parts.{Coarsening}
 use Rattle.congruence.proofs.Labels.{step-none, step-more}
 use Rattle.congruence.proofs.saturated.Statement.{statement}

@@ -3,7 +3,7 @@ use mathlib.Core.Path.{_≡_}
 use Prim.Native.Nat.{_≤_, _-_}
 use mathlib.Core.Logic.{inl, inr}
 use Rattle.prelude.specs.Lists.{at}
-use Rattle.sheet.specs.Packed.{view}
+use Rattle.layout.specs.Packed.{view}
 use Rattle.congruence.proofs.Sweeps.{StatedTo, stated-none, stated-same, stated-differ}
 use borrow.Author.Needs.{needs}
 use native.Mathlib.Omega.{arith}

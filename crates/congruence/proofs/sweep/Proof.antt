@@ -2,7 +2,7 @@
 use mathlib.Core.Path.{_≡_}
 use Prim.Native.Nat.{_≤_, _-_}
 use Rattle.prelude.specs.Lists.{at}
-use Rattle.sheet.specs.Packed.{view}
+use Rattle.layout.specs.Packed.{view}
 use Rattle.congruence.proofs.Sweeps.{SweptTo, swept-none, swept-more, swept-all}
 use borrow.Author.Needs.{needs}
 use native.Mathlib.Omega.{arith}

@@ -3,7 +3,7 @@ use borrow.Author.Count.{below-more}
 use Prim.Native.Nat.{ℕ, _≤_, _<_, _-_}
 use mathlib.Core.Path.{_≡_, refl, sym, _∙_}
 use Rattle.prelude.specs.Lists.{at}
-use Rattle.sheet.specs.Packed.{view}
+use Rattle.layout.specs.Packed.{view}
 use Rattle.congruence.specs.Parts.{key}
 use borrow.Author.Needs.{needs}
 use native.Mathlib.Omega.{arith}

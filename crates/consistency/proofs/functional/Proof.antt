@@ -4,7 +4,7 @@ use mathlib.Core.Path.{sym, subst, _∙_}
 use mathlib.Core.Logic.{inl, inr}
 use mathlib.Core.List.{List}
 use native.Mathlib.Omega.{arith}
-use Rattle.sheet.specs.Packed.{view}
+use Rattle.layout.specs.Packed.{view}
 use Rattle.prelude.specs.Lists.{at}
 use Rattle.prelude.proofs.Tests.{answer-yes, answer-no}
 use Rattle.consistency.proofs.WholeTest.{Entered, entered-none, entered-other, entered-all, step-again, step-more, step-clash}

@@ -3,9 +3,9 @@ use Prim.Native.Nat.{_≤_}
 use mathlib.Core.Path.{ap}
 use lib.ListN.{length}
 use borrow.Author.Tests.{not-true, not-false}
-use Rattle.sheet.specs.declared.Parsed.{Parsed}
+use Rattle.layout.specs.declared.Parsed.{Parsed}
 use Rattle.tables.specs.Layout.{extent}
-use Rattle.finder.specs.Answer.{entryOf}
+use Rattle.answer.specs.Answer.{entryOf}
 use Rattle.finder.specs.Find.{ceilings, answered, ReadFrom}
 use Rattle.finder.specs.declared.Finding.the-variants.{Found}
 use Rattle.finder.proofs.Searching.{outcome-finds, refusal-finds, stands, limited, searchable, short-codes, short-tables, nothing-found, least-found, least-writable}

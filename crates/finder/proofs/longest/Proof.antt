@@ -1,5 +1,5 @@
 -- `finder::longest` meets its contract.
-use Rattle.finder.proofs.Writing.{ceilings-extent}
+use Rattle.finder.proofs.Searching.{ceilings-extent}
 use borrow.Author.Needs.{needs}
 use Rattle.finder.proofs.longest.Statement.{statement}
 use Rattle.finder.proofs.longest.Tie as tie

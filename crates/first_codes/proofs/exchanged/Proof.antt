@@ -4,7 +4,7 @@ use mathlib.Core.Path.{_≡_, _∙_}
 use native.Mathlib.Omega.{arith}
 use lib.ListN.{length, length-set}
 use Rattle.prelude.specs.Lists.{at}
-use Rattle.sheet.specs.Packed.{view}
+use Rattle.layout.specs.Packed.{view}
 use Rattle.consistency.specs.Searchable.{Padded}
 use Rattle.first_codes.proofs.Lowering.{padded-set}
 use borrow.Author.Needs.{needs}

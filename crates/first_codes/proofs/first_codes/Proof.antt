@@ -5,7 +5,7 @@ use native.Mathlib.Omega.{arith}
 use lib.ListN.{replicate, getD-replicate}
 use borrow.Author.Tests.{not-true, not-false}
 use Rattle.prelude.specs.Limits.{undecided}
-use Rattle.sheet.specs.Packed.{view}
+use Rattle.layout.specs.Packed.{view}
 use Rattle.prelude.specs.Lists.{at}
 use Rattle.first_codes.proofs.Lowering.{Lowered, lowered-none, lowered-more, lowered-all, lowered-extends, lowered-pending, nothing-decided}
 use borrow.Author.Needs.{needs}

@@ -2,7 +2,7 @@
 use Prim.Native.Nat.{_≤_, _-_}
 use mathlib.Core.Logic.{inl, inr}
 use native.Mathlib.Omega.{arith}
-use Rattle.sheet.specs.Packed.{view}
+use Rattle.layout.specs.Packed.{view}
 use Rattle.prelude.specs.Lists.{at}
 use Rattle.solve.proofs.Branching.{code-decided, Tried, tried-dead, tried-not}
 use Rattle.first_codes.proofs.Lowering.{lowest-zero, lowest-dead, lowest-found, lowest-kept}
@@ -11,10 +11,10 @@ use Rattle.first_codes.proofs.lower.Statement.{statement}
 use Rattle.first_codes.proofs.lower.Tie as tie
 
 abbrev Inv-loop : tie.InvT-loop
-Inv-loop p sizes decided term weights₀ size word first flags best high v₀ weights v = (v ≤ high) × Tried (view p) (at sizes) decided term size word first flags v
+Inv-loop p sizes decided term weights₀ size mask first flags best high v₀ weights v = (v ≤ high) × Tried (view p) (at sizes) decided term size mask first flags v
 
 abbrev μ-loop : tie.MeasureT-loop
-μ-loop p sizes decided term weights₀ size word first flags best high v₀ weights v = high - v
+μ-loop p sizes decided term weights₀ size mask first flags best high v₀ weights v = high - v
 
 array-read-if1 : tie.Need-array-read-if1 Inv-loop μ-loop
 array-read-if1 c = omega (arith, c .pre .0 .terms, c .pre .1 .1 .0 .0)

@@ -1,5 +1,5 @@
 -- `knowledge::merge` meets its contract: each of the three arrays in turn.
-use Rattle.knowledge.proofs.Keeping.{step, chain, in-labels, in-words, in-marks}
+use Rattle.knowledge.proofs.Keeping.{step, chain, in-labels, in-masks, in-marks}
 use borrow.Author.Needs.{needs}
 use Rattle.knowledge.proofs.merge.Statement.{statement}
 use Rattle.knowledge.proofs.merge.Tie as tie
@@ -38,7 +38,7 @@ returns-3 : tie.Need-returns-3
 returns-3 c =
     let p = c .before .before .before .before .before .before .before .before .before .before .before .args in
     chain (in-labels (c .before .before .before .before .before .before .before .relabel .ensures))
-    (chain (step (λ a e k g. k .words (p .b) (rw e at g)) (in-words (c .before .before .before .before .strike .ensures)))
+    (chain (step (λ a e k g. k .masks (p .b) (rw e at g)) (in-masks (c .before .before .before .before .strike .ensures)))
     (chain (in-marks {m′ = c .before .before .unite-half .last .0} (c .before .before .unite-half .ensures)) (in-marks (c .unite-half2 .ensures))))
 
 pub merge-spec : {M : Type 1} → statement M

@@ -1,4 +1,4 @@
--- `knowledge::single` meets its contract: the test after the guess says which word it is.
+-- `knowledge::single` meets its contract: the test after the guess says which mask it is.
 use Prim.Native.Nat.{_-_}
 use lib.Count.{trailingZeros, trailing-le}
 use Rattle.knowledge.proofs.Bits.{shl-one, bit-only}

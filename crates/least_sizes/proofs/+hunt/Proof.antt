@@ -5,7 +5,7 @@ use mathlib.Core.Path.{refl, sym, subst}
 use mathlib.Core.List.{List}
 use mathlib.Core.Logic.{inl, inr}
 use native.Mathlib.Omega.{arith}
-use Rattle.sheet.specs.Packed.{view}
+use Rattle.layout.specs.Packed.{view}
 use Rattle.prelude.specs.Lists.{at, sumTo}
 use Rattle.least_sizes.specs.declared.State.{State}
 use Rattle.least_sizes.proofs.Regions.{Hunting, hunted-done, hunting-none, hunting-skip, hunting-more, down-region, down-fewer, hunted-all, hunted-since, outdone-itself}

@@ -3,11 +3,12 @@ use Prim.Native.Nat.{ℕ, _+_, _≤_, _-_}
 use mathlib.Core.Path.{sym, subst}
 use mathlib.Core.Logic.{inl, inr}
 use native.Mathlib.Omega.{arith}
-use Rattle.sheet.specs.Packed.{view}
+use Rattle.layout.specs.Packed.{view}
 use Rattle.least_sizes.specs.Parts.{Edge}
-use Rattle.least_sizes.proofs.Regions.{edge-none, edge-lower, edge-higher, edge-wider, set-small}
+use Rattle.least_sizes.proofs.Regions.{edge-none, edge-lower, edge-higher, edge-wider}
 use Rattle.least_sizes.proofs.edge.Statement.{statement}
 use Rattle.least_sizes.proofs.edge.Tie as tie
+use Rattle.prelude.proofs.Lists.{at-set-most}
 
 abbrev Inv-loop : tie.InvT-loop
 Inv-loop p base sort lo hi first weights₀ a₀ b₀ guess₀ weights a b guess = Edge (view p) base sort lo b a × (b ≤ hi)
@@ -33,7 +34,7 @@ probe-requires c κs =
     let s = c .before .before .before .before .before in
     let i = c .before .before .before .before .loop .inv .1 in
     let w = c .before .before .moved-inside .ensures .most in
-    (s .pre .0, rw (c .before .with-size .ensures) (set-small _ (s .args .base) (s .args .sort) _ 16 (omega (arith, s .pre .1 .1 .2)) (s .pre .1 .0)))
+    (s .pre .0, rw (c .before .with-size .ensures) (λ r h. at-set-most (s .args .base) (s .args .sort) _ 16 r (s .pre .1 .0 r h) (omega (arith, s .pre .1 .1 .2))))
 
 add-a : tie.Need-add-a Inv-loop μ-loop
 add-a c =

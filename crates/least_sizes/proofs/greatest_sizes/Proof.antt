@@ -4,7 +4,7 @@ use mathlib.Core.Path.{_≡_, refl, sym, subst}
 use mathlib.Core.List.{List}
 use mathlib.Core.Logic.{inl, inr}
 use native.Mathlib.Omega.{arith}
-use Rattle.sheet.specs.Packed.{view}
+use Rattle.layout.specs.Packed.{view}
 use Rattle.prelude.specs.Lists.{at, sumTo}
 use Rattle.least_sizes.proofs.Regions.{Clipped, clipped-none, clipped-kept, clipped-less, clipped-all, greatest-none, floors-exceed, floor-exceeds}
 use borrow.Author.Needs.{needs}

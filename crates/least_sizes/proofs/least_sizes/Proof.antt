@@ -4,7 +4,7 @@ use mathlib.Core.Bool.{Bool, false≢true}
 use native.Mathlib.Omega.{arith}
 use native.Mathlib.Nat.{le-refl}
 use borrow.Author.Tests.{not-true, not-false}
-use Rattle.sheet.specs.Packed.{view}
+use Rattle.layout.specs.Packed.{view}
 use Rattle.prelude.specs.Lists.{at}
 use Rattle.least_sizes.specs.Parts.{GreatestSizes}
 use Rattle.least_sizes.proofs.Regions.{none-allowed, none-satisfiable, hunted-least}

@@ -4,7 +4,7 @@ use mathlib.Core.Path.{_≡_, sym, subst, ap}
 use mathlib.Core.List.{List}
 use mathlib.Core.Logic.{inl, inr}
 use native.Mathlib.Omega.{arith}
-use Rattle.sheet.specs.Packed.{view}
+use Rattle.layout.specs.Packed.{view}
 use Rattle.prelude.specs.Lists.{at}
 use Rattle.least_sizes.proofs.Regions.{Widening, widening-none, widening-more}
 use borrow.Author.Needs.{needs}

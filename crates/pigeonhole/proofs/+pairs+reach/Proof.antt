@@ -1,7 +1,7 @@
 -- `pigeonhole::pairs` and `pigeonhole::reach` meet their contracts. The measure is how many calls deep they can still go: two for each level.
 use borrow.Author.Tests.{not-false}
 use native.Mathlib.Omega.{arith}
-use Rattle.pigeonhole.proofs.Counting.{settled-counted, pairs-counted, few-cells}
+use Rattle.pigeonhole.proofs.Counting.{settled-counted, pairs-counted}
 use borrow.Author.Needs.{needs}
 use Prim.Native.Nat.{ℕ, _+_, _*_, _<_}
 use borrow.Fn.Kinds.{In}
@@ -17,6 +17,7 @@ use Rattle.pigeonhole.proofs.one_symbol.Reads as one-symbol-reads
 use Rattle.pigeonhole.proofs.values.Reads as values-reads
 use Rattle.pigeonhole.proofs.+pairs+reach.{statement}
 use Rattle.pigeonhole.proofs.+pairs+reach.Tie.{close}
+use Rattle.prelude.proofs.Rows.{table-most}
 
 abbrev μ-pairs : Measures 1 pairs-kinds.ps ℕ
 μ-pairs κs a = 2 * a .1 .1 .1 .1 .1 .1 .1 .1 .0 + 1
@@ -68,15 +69,15 @@ pairs-reach-requires-2 : (t : ℕ) → pairs-lts.Need-reach-requires-2 (pairs-cl
 pairs-reach-requires-2 t c κs = let s = c .before .before .before .before .before in (omega (arith, s .pre .0), s .pre .1 .0)
 
 pairs-mul-result : (t : ℕ) → pairs-lts.Need-mul-result (pairs-claims t) (pairs-at t) pairs.Post
-pairs-mul-result t c = let h = few-cells _ _ (c .before .before .reach .ensures .1) (c .reach2 .ensures .1) in omega arith
+pairs-mul-result t c = let h = table-most _ _ (c .before .before .reach .ensures .1) (c .reach2 .ensures .1) in omega arith
 
 pairs-returns : (t : ℕ) → pairs-lts.Need-returns (pairs-claims t) (pairs-at t) pairs.Post
 pairs-returns t c =
     let a = c .before .before .before .before in
     let s = a .before .before in
     let p = s .args in (
-      pairs-counted _ _ _ _ (p .labels .now) (p .words .now) (p .list .now) (a .before .arguments .result) (a .arguments2 .result) _ _ _ (s .pre .1 .0 .0) (s .pre .1 .1) (a .before .arguments .ensures) (a .arguments2 .ensures) (c .before .before .reach .ensures .0) (c .reach2 .ensures .0),
-      few-cells _ _ (c .before .before .reach .ensures .1) (c .reach2 .ensures .1),
+      pairs-counted _ _ _ _ (p .labels .now) (p .masks .now) (p .list .now) (a .before .arguments .result) (a .arguments2 .result) _ _ _ (s .pre .1 .0 .0) (s .pre .1 .1) (a .before .arguments .ensures) (a .arguments2 .ensures) (c .before .before .reach .ensures .0) (c .reach2 .ensures .0),
+      table-most _ _ (c .before .before .reach .ensures .1) (c .reach2 .ensures .1),
     )
 
 reach-values-requires : (t : ℕ) → reach-lts.Need-values-requires (reach-claims t) (reach-at t) reach.Post
@@ -86,7 +87,7 @@ reach-returns : (t : ℕ) → reach-lts.Need-returns (reach-claims t) (reach-at 
 reach-returns t c =
     let v = c .before in
     let p = v .before .args in
-    (settled-counted _ _ _ _ (p .labels .now) (p .words .now) (p .list .now) _ _ (v .values .ensures .0), v .values .ensures .1)
+    (settled-counted _ _ _ _ (p .labels .now) (p .masks .now) (p .list .now) _ _ (v .values .ensures .0), v .values .ensures .1)
 
 reach-one-symbol-requires : (t : ℕ) → reach-lts.Need-one-symbol-requires (reach-claims t) (reach-at t) reach.Post
 reach-one-symbol-requires t c κs = search needs
@@ -95,7 +96,7 @@ reach-returns-2 : (t : ℕ) → reach-lts.Need-returns-2 (reach-claims t) (reach
 reach-returns-2 t c =
     let v = c .before .before .before in
     let p = v .before .args in
-    (settled-counted _ _ _ _ (p .labels .now) (p .words .now) (p .list .now) _ _ (v .values .ensures .0), v .values .ensures .1)
+    (settled-counted _ _ _ _ (p .labels .now) (p .masks .now) (p .list .now) _ _ (v .values .ensures .0), v .values .ensures .1)
 
 reach-sub-pairs : (t : ℕ) → reach-lts.Need-sub-pairs (reach-claims t) (reach-at t) reach.Post
 reach-sub-pairs t c = search needs
@@ -114,7 +115,7 @@ reach-returns-4 : (t : ℕ) → reach-lts.Need-returns-4 (reach-claims t) (reach
 reach-returns-4 t c =
     let v = c .before .before .before .before .before in
     let p = v .before .args in
-    (settled-counted _ _ _ _ (p .labels .now) (p .words .now) (p .list .now) _ _ (v .values .ensures .0), v .values .ensures .1)
+    (settled-counted _ _ _ _ (p .labels .now) (p .masks .now) (p .list .now) _ _ (v .values .ensures .0), v .values .ensures .1)
 
 pub +pairs+reach-spec : {M : Type 1} → statement M
 +pairs+reach-spec = close μ-pairs μ-reach (λ t. pairs-lts.spec (pairs-claims t)

@@ -1,6 +1,6 @@
 -- `pigeonhole::common` meets its contract.
 use Prim.Native.Nat.{_-_, _≤_}
-use Rattle.knowledge.specs.Knows.{Labels, Words, Means}
+use Rattle.knowledge.specs.Knows.{Labels, Masks, Means}
 use Rattle.pigeonhole.specs.Parts.{Free}
 use Rattle.pigeonhole.proofs.Counting.{common-more}
 use native.Mathlib.Omega.{arith}
@@ -9,10 +9,10 @@ use Rattle.pigeonhole.proofs.common.Statement.{statement}
 use Rattle.pigeonhole.proofs.common.Tie as tie
 
 abbrev Inv-loop : tie.InvT-loop
-Inv-loop labels words list k w₀ a₀ w a = (k ≤ 128) × (a ≤ k) × Means (λ c. Labels labels c × Words words c) (Free w list a)
+Inv-loop labels masks list k w₀ a₀ w a = (k ≤ 128) × (a ≤ k) × Means (λ c. Labels labels c × Masks masks c) (Free w list a)
 
 abbrev μ-loop : tie.MeasureT-loop
-μ-loop labels words list k w₀ a₀ w a = k - a
+μ-loop labels masks list k w₀ a₀ w a = k - a
 
 loop-holds : tie.Need-loop-holds Inv-loop μ-loop
 loop-holds c = (omega arith, omega arith, record { means = λ x h b hb. absurd (omega arith) })
@@ -26,8 +26,8 @@ wide-requires c κs = search needs
 label-requires : tie.Need-label-requires Inv-loop μ-loop
 label-requires c κs = search needs
 
-word-requires : tie.Need-word-requires Inv-loop μ-loop
-word-requires c κs = search needs
+mask-requires : tie.Need-mask-requires Inv-loop μ-loop
+mask-requires c κs = search needs
 
 add-a : tie.Need-add-a Inv-loop μ-loop
 add-a c = search needs
@@ -39,7 +39,7 @@ loop-again : tie.Need-loop-again Inv-loop μ-loop
 loop-again c =
     let s = c .before .before .before .before .before in
     let p = s .before .args in
-    (omega arith, omega arith, common-more (p .labels .now) (p .words .now) (p .list .now) _ _ _ _ _ (s .loop .inv .2) (c .before .label .ensures) (c .before .before .wide .ensures .0) (c .word .ensures))
+    (omega arith, omega arith, common-more (p .labels .now) (p .masks .now) (p .list .now) _ _ _ _ _ (s .loop .inv .2) (c .before .label .ensures) (c .before .before .wide .ensures .0) (c .mask .ensures))
 
 returns : tie.Need-returns Inv-loop μ-loop
 returns c = record { means = λ x h b hb. c .before .loop .inv .2 .means x h b (omega arith) }
@@ -54,7 +54,7 @@ common-spec =
     element-copy-out-wide
     wide-requires
     label-requires
-    word-requires
+    mask-requires
     add-a
     loop-less
     loop-again

@@ -8,10 +8,10 @@ use Rattle.pigeonhole.proofs.gather.Statement.{statement}
 use Rattle.pigeonhole.proofs.gather.Tie as tie
 
 abbrev Inv-loop : tie.InvT-loop
-Inv-loop words labels marks symbol n f g₀ i₀ g i = (n ≤ 128) × (i ≤ n) × Gathered n symbol labels words marks f i (g .chosen) (g .count)
+Inv-loop masks labels marks symbol n f g₀ i₀ g i = (n ≤ 128) × (i ≤ n) × Gathered n symbol labels masks marks f i (g .chosen) (g .count)
 
 abbrev μ-loop : tie.MeasureT-loop
-μ-loop words labels marks symbol n f g₀ i₀ g i = n - i
+μ-loop masks labels marks symbol n f g₀ i₀ g i = n - i
 
 loop-holds : tie.Need-loop-holds Inv-loop μ-loop
 loop-holds c = (omega arith, omega arith, nobody _ _ _ _ _ _)

@@ -1,6 +1,6 @@
 -- `pigeonhole::strike_crowds` meets its contract.
 use Prim.Native.Nat.{_-_, _≤_}
-use Rattle.knowledge.specs.Knows.{Kept, Words}
+use Rattle.knowledge.specs.Knows.{Kept, Masks}
 use Rattle.knowledge.proofs.Keeping.{stay, step, chain}
 use Rattle.rules.specs.Reasons.{KnownLawful}
 use borrow.Author.Needs.{needs}
@@ -9,10 +9,10 @@ use Rattle.pigeonhole.proofs.strike_crowds.Statement.{statement}
 use Rattle.pigeonhole.proofs.strike_crowds.Tie as tie
 
 abbrev Inv-loop : tie.InvT-loop
-Inv-loop words₀ labels marks symbol arg0 arg1 n met₀ news₀ i₀ words met news i = (n ≤ 128) × (i ≤ n) × Kept (KnownLawful n symbol arg0 arg1 labels words₀ marks) (Words words₀) (Words words)
+Inv-loop masks₀ labels marks symbol arg0 arg1 n met₀ news₀ i₀ masks met news i = (n ≤ 128) × (i ≤ n) × Kept (KnownLawful n symbol arg0 arg1 labels masks₀ marks) (Masks masks₀) (Masks masks)
 
 abbrev μ-loop : tie.MeasureT-loop
-μ-loop words₀ labels marks symbol arg0 arg1 n met₀ news₀ i₀ words met news i = n - i
+μ-loop masks₀ labels marks symbol arg0 arg1 n met₀ news₀ i₀ masks met news i = n - i
 
 loop-holds : tie.Need-loop-holds Inv-loop μ-loop
 loop-holds c = (omega arith, omega arith, stay)
@@ -31,7 +31,7 @@ loop-again c = (
   omega arith,
   omega arith,
   chain (c .before .before .before .before .loop .inv .2)
-      (step (λ x k v. record { lawful = k .lawful; knows = record { labels = k .knows .labels; words = v; marks = k .knows .marks } }) (c .meet-symbol .ensures)),
+      (step (λ x k v. record { lawful = k .lawful; knows = record { labels = k .knows .labels; masks = v; marks = k .knows .marks } }) (c .meet-symbol .ensures)),
 )
 
 returns : tie.Need-returns Inv-loop μ-loop

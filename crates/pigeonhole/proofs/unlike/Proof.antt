@@ -11,10 +11,10 @@ use Rattle.pigeonhole.proofs.unlike.Statement.{statement}
 use Rattle.pigeonhole.proofs.unlike.Tie as tie
 
 abbrev Inv-loop : tie.InvT-loop
-Inv-loop labels words marks chosen k i g a₀ a = (k ≤ 128) × (a ≤ k) × Means (KnownSmall labels words marks) (Unlike chosen a i)
+Inv-loop labels masks marks chosen k i g a₀ a = (k ≤ 128) × (a ≤ k) × Means (KnownSmall labels masks marks) (Unlike chosen a i)
 
 abbrev μ-loop : tie.MeasureT-loop
-μ-loop labels words marks chosen k i g a₀ a = k - a
+μ-loop labels masks marks chosen k i g a₀ a = k - a
 
 label-requires : tie.Need-label-requires Inv-loop μ-loop
 label-requires c κs = search needs
@@ -47,7 +47,7 @@ loop-again : tie.Need-loop-again Inv-loop μ-loop
 loop-again c =
     let s = c .before .before .before .before .before .before in
     let p = s .before .before .args in
-    (omega arith, omega arith, unlike-more (p .labels .now) (p .words .now) (p .marks .now) (p .chosen .now) _ _ _ _ _ (s .loop .inv .2) (s .before .label .ensures) (c .before .before .label2 .ensures) (c .before .before .before .wide .ensures .0) (c .before .apart .ensures (not-false _ (c .if1 .left))))
+    (omega arith, omega arith, unlike-more (p .labels .now) (p .masks .now) (p .marks .now) (p .chosen .now) _ _ _ _ _ (s .loop .inv .2) (s .before .label .ensures) (c .before .before .label2 .ensures) (c .before .before .before .wide .ensures .0) (c .before .apart .ensures (not-false _ (c .if1 .left))))
 
 returns-2 : tie.Need-returns-2 Inv-loop μ-loop
 returns-2 c = λ e. record { means = λ x h b hb. c .before .loop .inv .2 .means x h b (omega arith) }

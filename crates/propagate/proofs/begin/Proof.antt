@@ -1,5 +1,5 @@
 -- `propagate::begin` meets its contract: the literals hold of all consistent codes.
-use Rattle.propagate.proofs.Starting.{begun}
+use Rattle.propagate.proofs.Knowing.{begun}
 use borrow.Author.Needs.{needs}
 use Rattle.propagate.proofs.begin.Statement.{statement}
 use Rattle.propagate.proofs.begin.Tie as tie

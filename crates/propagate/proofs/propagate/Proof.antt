@@ -3,9 +3,9 @@ use Prim.Native.Nat.{ℕ}
 use borrow.Author.Tests.{ltb-true}
 use Rattle.prelude.specs.Lists.{at}
 use Rattle.logic.specs.Problem.{Consistent, Extends}
-use Rattle.sheet.specs.Packed.{view}
+use Rattle.layout.specs.Packed.{view}
 use Rattle.knowledge.specs.Knows.{Knows}
-use Rattle.propagate.proofs.Starting.{known}
+use Rattle.propagate.proofs.Knowing.{known}
 use borrow.Author.Needs.{needs}
 use Rattle.propagate.proofs.propagate.Statement.{statement}
 use Rattle.propagate.proofs.propagate.Tie as tie
@@ -13,8 +13,8 @@ use Rattle.propagate.proofs.propagate.Tie as tie
 clamped-requires : tie.Need-clamped-requires
 clamped-requires c κs = search needs
 
-start-words-requires : tie.Need-start-words-requires
-start-words-requires c κs = search needs
+start-masks-requires : tie.Need-start-masks-requires
+start-masks-requires c κs = search needs
 
 rounds-requires : tie.Need-rounds-requires
 rounds-requires c κs = search needs
@@ -44,13 +44,13 @@ returns c =
     let start = clamped .before in
     let p = start .args in
     let end : (a : ℕ → ℕ) → Consistent (view (p .t1)) (at (p .t2)) a → Extends (view (p .t1)) (at (p .t3)) a → Knows (rounds .rounds .last .0) (rounds .rounds .last .1 .0) (rounds .rounds .last .1 .1 .0) a =
-    λ a k x. known (p .t1) (p .t2) (p .t3) (clamped .clamped .result) (clamped .clamped .ensures .0) a k x (start .pre .0 a k) (start .pre .1 a k x) (started .start-words .ensures) (rounds .rounds .ensures) in
+    λ a k x. known (p .t1) (p .t2) (p .t3) (clamped .clamped .result) (clamped .clamped .ensures .0) a k x (start .pre .0 a k) (start .pre .1 a k x) (started .start-masks .ensures) (rounds .rounds .ensures) in
     record {
-      dead = λ e a k x. conflict .conflict .ensures (ltb-true _ _ e) .means a (record { small = start .pre .0 a k; words = end a k x .words; marks = end a k x .marks });
+      dead = λ e a k x. conflict .conflict .ensures (ltb-true _ _ e) .means a (record { small = start .pre .0 a k; masks = end a k x .masks; marks = end a k x .marks });
       knowing = λ a k x.
           record {
             labels = end a k x .labels;
-            words = spread .spread .ensures .means a (record { labels = end a k x .labels; words = end a k x .words });
+            masks = spread .spread .ensures .means a (record { labels = end a k x .labels; masks = end a k x .masks });
             marks = end a k x .marks;
           };
     }
@@ -60,7 +60,7 @@ propagate-spec =
     tie.close
     (tie.spec
     clamped-requires
-    start-words-requires
+    start-masks-requires
     rounds-requires
     conflict-requires
     spread-requires

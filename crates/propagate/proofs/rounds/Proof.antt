@@ -10,11 +10,11 @@ use Rattle.propagate.proofs.rounds.Statement.{statement}
 use Rattle.propagate.proofs.rounds.Tie as tie
 
 abbrev Inv-loop : tie.InvT-loop
-Inv-loop labels₀ words₀ marks₀ symbol arg0 arg1 sort n fresh₀ news₀ done₀ labels words marks fresh news done =
-    (n ≤ 128) × (done ≤ 512) × Kept (Lawful n symbol arg0 arg1) (Knows labels₀ words₀ marks₀) (Knows labels words marks)
+Inv-loop labels₀ masks₀ marks₀ symbol arg0 arg1 sort n fresh₀ news₀ done₀ labels masks marks fresh news done =
+    (n ≤ 128) × (done ≤ 512) × Kept (Lawful n symbol arg0 arg1) (Knows labels₀ masks₀ marks₀) (Knows labels masks marks)
 
 abbrev μ-loop : tie.MeasureT-loop
-μ-loop labels₀ words₀ marks₀ symbol arg0 arg1 sort n fresh₀ news₀ done₀ labels words marks fresh news done = 512 - done
+μ-loop labels₀ masks₀ marks₀ symbol arg0 arg1 sort n fresh₀ news₀ done₀ labels masks marks fresh news done = 512 - done
 
 loop-holds : tie.Need-loop-holds Inv-loop μ-loop
 loop-holds c = (omega arith, omega arith, stay)

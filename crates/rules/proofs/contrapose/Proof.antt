@@ -48,7 +48,7 @@ mark-requires c κs = search needs
 returns-4 : tie.Need-returns-4
 returns-4 c =
     let p = c .before .before .before .before .before .before .before .before .before .before .before .before .before .before .before .before .args in
-    step (λ a s m e. c .before .before .before .before .before .before .before .before .apart .ensures (not-false _ (c .before .before .before .before .before .before .before .if3 .left)) .means a (s .lawful .small, (s .words, m))
+    step (λ a s m e. c .before .before .before .before .before .before .before .before .apart .ensures (not-false _ (c .before .before .before .before .before .before .before .if3 .left)) .means a (s .lawful .small, (s .masks, m))
     (c .before .before .before .before .before .before .before .before .before .before .label .ensures .means a (s .labels)
     ∙ s .lawful .congruent (p .i) (p .j) (c .before .before .before .before .before .before .before .before .before .before .before .before .before .before .before .before .pre .1) (c .before .before .before .before .before .before .before .before .before .before .before .before .before .before .before .if1 .left) (c .before .before .before .before .before .before .before .before .before .before .before .before .if2 .left)
     (sym (c .before .before .before .before .before .before .argument .ensures .means a (s .labels)) ∙ e ∙ c .before .before .before .before .before .argument2 .ensures .means a (s .labels))
@@ -61,7 +61,7 @@ mark-requires-2 c κs = search needs
 returns-5 : tie.Need-returns-5
 returns-5 c =
     let p = c .before .before .before .before .before .before .before .before .before .before .before .before .before .before .before .before .before .args in
-    step (λ a s m e. c .before .before .before .before .before .before .before .before .before .apart .ensures (not-false _ (c .before .before .before .before .before .before .before .before .if3 .left)) .means a (s .lawful .small, (s .words, m))
+    step (λ a s m e. c .before .before .before .before .before .before .before .before .before .apart .ensures (not-false _ (c .before .before .before .before .before .before .before .before .if3 .left)) .means a (s .lawful .small, (s .masks, m))
     (c .before .before .before .before .before .before .before .before .before .before .before .label .ensures .means a (s .labels)
     ∙ s .lawful .congruent (p .i) (p .j) (c .before .before .before .before .before .before .before .before .before .before .before .before .before .before .before .before .before .pre .1) (c .before .before .before .before .before .before .before .before .before .before .before .before .before .before .before .before .if1 .left) (c .before .before .before .before .before .before .before .before .before .before .before .before .before .if2 .left)
     (sym (c .before .before .before .before .before .before .before .argument .ensures .means a (s .labels)) ∙ ap a (c .before .before .if5 .taken) ∙ c .before .before .before .before .before .before .argument2 .ensures .means a (s .labels))

@@ -9,10 +9,10 @@ use Rattle.rules.proofs.contrapose_all.Statement.{statement}
 use Rattle.rules.proofs.contrapose_all.Tie as tie
 
 abbrev Inv-loop : tie.InvT-loop
-Inv-loop marks₀ labels words symbol arg0 arg1 earlier n news₀ i₀ marks news i = (n ≤ 128) × (i ≤ n) × Kept (LawfulGrouped n symbol arg0 arg1 labels words) (Marks marks₀) (Marks marks)
+Inv-loop marks₀ labels masks symbol arg0 arg1 earlier n news₀ i₀ marks news i = (n ≤ 128) × (i ≤ n) × Kept (LawfulGrouped n symbol arg0 arg1 labels masks) (Marks marks₀) (Marks marks)
 
 abbrev μ-loop : tie.MeasureT-loop
-μ-loop marks₀ labels words symbol arg0 arg1 earlier n news₀ i₀ marks news i = i
+μ-loop marks₀ labels masks symbol arg0 arg1 earlier n news₀ i₀ marks news i = i
 
 loop-holds : tie.Need-loop-holds Inv-loop μ-loop
 loop-holds c = (omega arith, omega arith, stay)

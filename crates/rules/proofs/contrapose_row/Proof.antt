@@ -10,10 +10,10 @@ use Rattle.rules.proofs.contrapose_row.Statement.{statement}
 use Rattle.rules.proofs.contrapose_row.Tie as tie
 
 abbrev Inv-loop : tie.InvT-loop
-Inv-loop marks₀ labels words symbol arg0 arg1 earlier n i news₀ j₀ tried₀ marks news j tried = (n ≤ 128) × (i < n) × (tried ≤ 128) × Kept (LawfulGrouped n symbol arg0 arg1 labels words) (Marks marks₀) (Marks marks)
+Inv-loop marks₀ labels masks symbol arg0 arg1 earlier n i news₀ j₀ tried₀ marks news j tried = (n ≤ 128) × (i < n) × (tried ≤ 128) × Kept (LawfulGrouped n symbol arg0 arg1 labels masks) (Marks marks₀) (Marks marks)
 
 abbrev μ-loop : tie.MeasureT-loop
-μ-loop marks₀ labels words symbol arg0 arg1 earlier n i news₀ j₀ tried₀ marks news j tried = 128 - tried
+μ-loop marks₀ labels masks symbol arg0 arg1 earlier n i news₀ j₀ tried₀ marks news j tried = 128 - tried
 
 element-copy-out-wide : tie.Need-element-copy-out-wide Inv-loop μ-loop
 element-copy-out-wide c = search needs

@@ -10,11 +10,11 @@ use Rattle.rules.proofs.join_congruent.Statement.{statement}
 use Rattle.rules.proofs.join_congruent.Tie as tie
 
 abbrev Inv-loop : tie.InvT-loop
-Inv-loop labels₀ words₀ marks₀ fresh₀ symbol arg0 arg1 n table₀ keys₀ news₀ i₀ labels words marks fresh table keys news i =
-    (n ≤ 128) × (i ≤ n) × Kept (Congruent n (at symbol) (at arg0) (at arg1)) (Knows labels₀ words₀ marks₀) (Knows labels words marks)
+Inv-loop labels₀ masks₀ marks₀ fresh₀ symbol arg0 arg1 n table₀ keys₀ news₀ i₀ labels masks marks fresh table keys news i =
+    (n ≤ 128) × (i ≤ n) × Kept (Congruent n (at symbol) (at arg0) (at arg1)) (Knows labels₀ masks₀ marks₀) (Knows labels masks marks)
 
 abbrev μ-loop : tie.MeasureT-loop
-μ-loop labels₀ words₀ marks₀ fresh₀ symbol arg0 arg1 n table₀ keys₀ news₀ i₀ labels words marks fresh table keys news i = n - i
+μ-loop labels₀ masks₀ marks₀ fresh₀ symbol arg0 arg1 n table₀ keys₀ news₀ i₀ labels masks marks fresh table keys news i = n - i
 
 loop-holds : tie.Need-loop-holds Inv-loop μ-loop
 loop-holds c = (omega arith, omega arith, stay)

@@ -8,10 +8,10 @@ use Rattle.rules.proofs.join_singles.Statement.{statement}
 use Rattle.rules.proofs.join_singles.Tie as tie
 
 abbrev Inv-loop : tie.InvT-loop
-Inv-loop labels₀ words₀ marks₀ sort n first₀ news₀ i₀ labels words marks first news i = (n ≤ 128) × (i ≤ n) × Kept SmallCodes (Knows labels₀ words₀ marks₀) (Knows labels words marks)
+Inv-loop labels₀ masks₀ marks₀ sort n first₀ news₀ i₀ labels masks marks first news i = (n ≤ 128) × (i ≤ n) × Kept SmallCodes (Knows labels₀ masks₀ marks₀) (Knows labels masks marks)
 
 abbrev μ-loop : tie.MeasureT-loop
-μ-loop labels₀ words₀ marks₀ sort n first₀ news₀ i₀ labels words marks first news i = n - i
+μ-loop labels₀ masks₀ marks₀ sort n first₀ news₀ i₀ labels masks marks first news i = n - i
 
 loop-holds : tie.Need-loop-holds Inv-loop μ-loop
 loop-holds c = (omega arith, omega arith, stay)

@@ -1,7 +1,7 @@
 -- `rules::strike_half` meets its contract; the bits that are left to go through only choose which k to try.
 use Prim.Native.Nat.{_-_, _<_}
 use lib.Bits.{and-le-r}
-use Rattle.knowledge.specs.Knows.{Kept, Words}
+use Rattle.knowledge.specs.Knows.{Kept, Masks}
 use Rattle.knowledge.proofs.Keeping.{stay, chain}
 use Rattle.rules.specs.Parts.{CodeMarks}
 use borrow.Author.Needs.{needs}
@@ -10,10 +10,10 @@ use Rattle.rules.proofs.strike_half.Statement.{statement}
 use Rattle.rules.proofs.strike_half.Tie as tie
 
 abbrev Inv-loop : tie.InvT-loop
-Inv-loop words₀ marks g v half rest₀ news₀ words rest news = (v < 16) × (g < 128) × (half < 2) × Kept (CodeMarks marks g v) (Words words₀) (Words words)
+Inv-loop masks₀ marks g v half rest₀ news₀ masks rest news = (v < 16) × (g < 128) × (half < 2) × Kept (CodeMarks marks g v) (Masks masks₀) (Masks masks)
 
 abbrev μ-loop : tie.MeasureT-loop
-μ-loop words₀ marks g v half rest₀ news₀ words rest news = rest
+μ-loop masks₀ marks g v half rest₀ news₀ masks rest news = rest
 
 mul-rest : tie.Need-mul-rest Inv-loop μ-loop
 mul-rest c = omega arith

@@ -1,6 +1,6 @@
 -- `rules::strike_marked` meets its contract.
 use Prim.Native.Nat.{_-_, _≤_}
-use Rattle.knowledge.specs.Knows.{Kept, Words}
+use Rattle.knowledge.specs.Knows.{Kept, Masks}
 use Rattle.knowledge.proofs.Keeping.{stay, chain}
 use Rattle.rules.specs.Reasons.{SmallMarks}
 use borrow.Author.Needs.{needs}
@@ -9,10 +9,10 @@ use Rattle.rules.proofs.strike_marked.Statement.{statement}
 use Rattle.rules.proofs.strike_marked.Tie as tie
 
 abbrev Inv-loop : tie.InvT-loop
-Inv-loop words₀ labels marks n news₀ i₀ words news i = (n ≤ 128) × (i ≤ n) × Kept (SmallMarks marks) (Words words₀) (Words words)
+Inv-loop masks₀ labels marks n news₀ i₀ masks news i = (n ≤ 128) × (i ≤ n) × Kept (SmallMarks marks) (Masks masks₀) (Masks masks)
 
 abbrev μ-loop : tie.MeasureT-loop
-μ-loop words₀ labels marks n news₀ i₀ words news i = n - i
+μ-loop masks₀ labels marks n news₀ i₀ masks news i = n - i
 
 loop-holds : tie.Need-loop-holds Inv-loop μ-loop
 loop-holds c = (omega arith, omega arith, stay)

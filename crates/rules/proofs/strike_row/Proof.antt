@@ -10,8 +10,8 @@ label-requires c κs = search needs
 returns : tie.Need-returns
 returns c = search needs
 
-word-requires : tie.Need-word-requires
-word-requires c κs = search needs
+mask-requires : tie.Need-mask-requires
+mask-requires c κs = search needs
 
 single-requires : tie.Need-single-requires
 single-requires c κs = search needs
@@ -29,7 +29,7 @@ returns-3 : tie.Need-returns-3
 returns-3 c =
     let g = c .before .before .before .before .before .before .before .before .before .before .args .g in
     let one = c .before .before .before .before .before .single .ensures (c .before .before .before .before .if2 .left) in
-    step (λ a t w. record { code = one .only (a g) (t .small g) (c .before .before .before .before .before .before .word .ensures .means a w); marks = t .marks }) (chain (c .before .before .strike-half .ensures) (c .strike-half2 .ensures))
+    step (λ a t w. record { code = one .only (a g) (t .small g) (c .before .before .before .before .before .before .mask .ensures .means a w); marks = t .marks }) (chain (c .before .before .strike-half .ensures) (c .strike-half2 .ensures))
 
 pub strike-row-spec : {M : Type 1} → statement M
 strike-row-spec =
@@ -37,7 +37,7 @@ strike-row-spec =
     (tie.spec
     label-requires
     returns
-    word-requires
+    mask-requires
     single-requires
     returns-2
     strike-half-requires

@@ -1,6 +1,6 @@
 -- A byte of a payload, or MISSING past its end.
 use native.Mathlib.Omega.{arith}
-use Rattle.sheet.proofs.Steps.{byte-inside, byte-past}
+use Rattle.layout.proofs.Payloads.{byte-inside, byte-past}
 use borrow.Author.Needs.{needs}
 use Rattle.sheet.proofs.byte_or.Statement.{statement}
 use Rattle.sheet.proofs.byte_or.Tie as tie

@@ -1,12 +1,13 @@
 -- The invariant: the sheet so far is known, and the records from here on decide.
-use Rattle.sheet.proofs.Records.{Going, reading-empty, reading-long, going-start, going-untotalled, going-accepted, going-refused, going-on, going-next}
+use Rattle.sheet.proofs.Parser.{Going, going-start, going-untotalled, going-accepted, going-refused, going-on, going-next}
+use Rattle.layout.proofs.Records.{reading-empty, reading-long}
 use borrow.Author.Needs.{needs}
 use Prim.Native.Nat.{_-_}
 use native.Mathlib.Omega.{arith}
 use mathlib.Core.Path.{_≡_, ap, sym, _∙_}
 use lib.ListN.{length}
-use Rattle.sheet.specs.Layout.{refused}
-use Rattle.sheet.specs.Packed.{parsing}
+use Rattle.layout.specs.Layout.{refused}
+use Rattle.sheet.specs.Verdict.{parsing}
 use Rattle.sheet.proofs.parse.Statement.{statement}
 use Rattle.sheet.proofs.parse.Tie as tie
 

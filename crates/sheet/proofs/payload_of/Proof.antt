@@ -1,6 +1,6 @@
 -- The three bytes are those of the payload.
 use native.Mathlib.Omega.{arith}
-use Rattle.sheet.proofs.Steps.{short}
+use Rattle.layout.proofs.Payloads.{short}
 use borrow.Author.Needs.{needs}
 use Rattle.sheet.proofs.payload_of.Statement.{statement}
 use Rattle.sheet.proofs.payload_of.Tie as tie

@@ -3,11 +3,13 @@ use native.Mathlib.Omega.{arith}
 use mathlib.Core.Path.{_≡_, refl, ap, sym, _∙_}
 use mathlib.Core.Bool.{Bool, true, false}
 use mathlib.Core.Logic.{⊎-elim}
-use Rattle.sheet.specs.Layout.{cut, kindAt, payloadAt}
-use Rattle.sheet.specs.Step.{stepAt, behind}
-use Rattle.sheet.specs.Parts.{faultAt}
-use Rattle.sheet.specs.declared.Stepped.{Stepped}
-use Rattle.sheet.proofs.Records.{Whole, took-refused, took-at, fault-cut, step-uncut, step-whole}
+use Rattle.records.specs.Record.{cut, kindAt, payloadAt}
+use Rattle.records.specs.Step.{stepAt, behind}
+use Rattle.layout.specs.Parts.{faultAt}
+use Rattle.records.specs.declared.Stepped.{Stepped}
+use Rattle.records.proofs.Steps.{Whole, step-uncut, step-whole}
+use Rattle.sheet.proofs.Parser.{took-refused, took-at}
+use Rattle.layout.proofs.Records.{fault-cut}
 use borrow.Author.Needs.{needs}
 use Rattle.sheet.proofs.read_record.Statement.{statement}
 use Rattle.sheet.proofs.read_record.Tie as tie

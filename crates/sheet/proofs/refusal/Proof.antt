@@ -1,5 +1,5 @@
 -- By the sheet before its first record.
-use Rattle.sheet.specs.Packed.{parsing}
+use Rattle.sheet.specs.Verdict.{parsing}
 use borrow.Author.Needs.{needs}
 use Rattle.sheet.proofs.refusal.Statement.{statement}
 use Rattle.sheet.proofs.refusal.Tie as tie

@@ -6,11 +6,12 @@ use mathlib.Core.Bool.{false}
 use mathlib.Core.List.{List}
 use lib.ListN.{length, take, drop}
 use borrow.Author.Needs.{needs}
-use Rattle.sheet.specs.Layout.{kindOf, misplaced, wrongLength, cause, add}
-use Rattle.sheet.specs.Packed.{packed}
-use Rattle.sheet.specs.Parts.{PartRead}
-use Rattle.sheet.proofs.Steps.{length-part}
-use Rattle.sheet.proofs.Records.{cause-3, cause-4, kind-known, one-to-three, took-refused, Tested, tested-sized, tested-cause}
+use Rattle.layout.specs.Layout.{kindOf, misplaced, wrongLength, cause, add}
+use Rattle.layout.specs.Packed.{packed}
+use Rattle.layout.specs.Parts.{PartRead}
+use Rattle.layout.proofs.Payloads.{length-part}
+use Rattle.layout.proofs.Records.{cause-3, cause-4, kind-known, one-to-three, Tested, tested-sized, tested-cause}
+use Rattle.sheet.proofs.Parser.{took-refused}
 use Rattle.sheet.proofs.take_record.Statement.{statement}
 use Rattle.sheet.proofs.take_record.Tie as tie
 

@@ -5,10 +5,10 @@ use mathlib.Core.Path.{sym, subst}
 use mathlib.Core.List.{List}
 use mathlib.Core.Logic.{inl, inr}
 use native.Mathlib.Omega.{arith}
-use Rattle.sheet.specs.Packed.{view}
+use Rattle.layout.specs.Packed.{view}
 use Rattle.prelude.specs.Lists.{at}
 use Rattle.logic.proofs.Decided.{openings, decide-fewer}
-use Rattle.solve.proofs.Branching.{code-decided, fit-word, knowing-struck, knowing-decided, Tried, tried-dead, tried-not, branches-dead, solved-none, solved-found, solved-less}
+use Rattle.solve.proofs.Branching.{code-decided, fit-mask, knowing-struck, knowing-decided, Tried, tried-dead, tried-not, branches-dead, solved-none, solved-found, solved-less}
 use borrow.Fn.Kinds.{In}
 use borrow.Fn.PlainCycle.{Measures, is, falls, and}
 use Rattle.solve.proofs.descend.Reads as descend
@@ -46,14 +46,14 @@ descend-claims t = (
 )
 
 abbrev descend-Inv-loop : descend-lts.InvT-loop
-descend-Inv-loop p sizes decided labels words marks weights₀ o codes term size word first flags v₀ weights v =
-    (v ≤ size) × Tried (view p) (at sizes) decided term size word first flags v
+descend-Inv-loop p sizes decided labels masks marks weights₀ o codes term size mask first flags v₀ weights v =
+    (v ≤ size) × Tried (view p) (at sizes) decided term size mask first flags v
 
 abbrev descend-μ-loop : descend-lts.MeasureT-loop
-descend-μ-loop p sizes decided labels words marks weights₀ o codes term size word first flags v₀ weights v = size - v
+descend-μ-loop p sizes decided labels masks marks weights₀ o codes term size mask first flags v₀ weights v = size - v
 
 descend-propagate-requires : (t : ℕ) → descend-lts.Need-propagate-requires (descend-claims t) (descend-at t) descend.Post descend-Inv-loop descend-μ-loop
-descend-propagate-requires t c κs = (fit-word _ _ (c .pre .1 .0 .sorted) (c .pre .1 .1 .0), c .pre .1 .1 .1)
+descend-propagate-requires t c κs = (fit-mask _ _ (c .pre .1 .0 .sorted) (c .pre .1 .1 .0), c .pre .1 .1 .1)
 
 descend-node-requires : (t : ℕ) → descend-lts.Need-node-requires (descend-claims t) (descend-at t) descend.Post descend-Inv-loop descend-μ-loop
 descend-node-requires t c κs =

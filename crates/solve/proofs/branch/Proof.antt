@@ -32,11 +32,11 @@ fresh-requires c κs =
     let l : at (s .args .t2) (c .before .before .wide .result) ≤ 16 = rw e (s .pre .1 .0 _ (s .pre .0 .sorted .sort (s .args .term) (s .pre .1 .1 .1 .0))) in
     omega (arith, c .before .wide2 .ensures .0)
 
-mul-word : tie.Need-mul-word
-mul-word c = search needs
+mul-mask : tie.Need-mul-mask
+mul-mask c = search needs
 
-array-read-word : tie.Need-array-read-word
-array-read-word c = search needs
+array-read-mask : tie.Need-array-read-mask
+array-read-mask c = search needs
 
 returns : tie.Need-returns
 returns c =
@@ -57,6 +57,6 @@ branch-spec =
     wide-requires-2
     codes-in-use-requires
     fresh-requires
-    mul-word
-    array-read-word
+    mul-mask
+    array-read-mask
     returns)

@@ -5,13 +5,13 @@ use Rattle.solve.proofs.choose.Statement.{statement}
 use Rattle.solve.proofs.choose.Tie as tie
 
 abbrev Inv-loop : tie.InvT-loop
-Inv-loop labels words degree weights p decided used best₀ high₀ i₀ best high i = i ≤ p .terms
+Inv-loop labels masks degree weights p decided used best₀ high₀ i₀ best high i = i ≤ p .terms
 
 abbrev μ-loop : tie.MeasureT-loop
-μ-loop labels words degree weights p decided used best₀ high₀ i₀ best high i = p .terms - i
+μ-loop labels masks degree weights p decided used best₀ high₀ i₀ best high i = p .terms - i
 
-used-words-requires : tie.Need-used-words-requires Inv-loop μ-loop
-used-words-requires c κs = search needs
+used-masks-requires : tie.Need-used-masks-requires Inv-loop μ-loop
+used-masks-requires c κs = search needs
 
 loop-holds : tie.Need-loop-holds Inv-loop μ-loop
 loop-holds c = search needs
@@ -31,11 +31,11 @@ mul-score c = search needs
 element-copy-out-score : tie.Need-element-copy-out-score Inv-loop μ-loop
 element-copy-out-score c = search needs
 
-element-copy-out-word-of : tie.Need-element-copy-out-word-of Inv-loop μ-loop
-element-copy-out-word-of c = search needs
+element-copy-out-mask-of : tie.Need-element-copy-out-mask-of Inv-loop μ-loop
+element-copy-out-mask-of c = search needs
 
-word-of-requires : tie.Need-word-of-requires Inv-loop μ-loop
-word-of-requires c κs = search needs
+mask-of-requires : tie.Need-mask-of-requires Inv-loop μ-loop
+mask-of-requires c κs = search needs
 
 mul-score-2 : tie.Need-mul-score-2 Inv-loop μ-loop
 mul-score-2 c = search needs
@@ -70,15 +70,15 @@ choose-spec =
     (tie.spec
     Inv-loop
     μ-loop
-    used-words-requires
+    used-masks-requires
     loop-holds
     array-read-if1
     element-copy-out-wide
     wide-requires
     mul-score
     element-copy-out-score
-    element-copy-out-word-of
-    word-of-requires
+    element-copy-out-mask-of
+    mask-of-requires
     mul-score-2
     element-copy-out-score-2
     mul-score-3

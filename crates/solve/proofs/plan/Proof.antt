@@ -1,5 +1,5 @@
 -- `solve::plan` meets its contract.
-use Rattle.solve.proofs.Branching.{fit-word, knowing-struck, dead-planned}
+use Rattle.solve.proofs.Branching.{fit-mask, knowing-struck, dead-planned}
 use borrow.Author.Needs.{needs}
 use Rattle.solve.proofs.plan.Statement.{statement}
 use Rattle.solve.proofs.plan.Tie as tie
@@ -10,7 +10,7 @@ begin-requires c κs = search needs
 propagate-requires : tie.Need-propagate-requires
 propagate-requires c κs =
     let s = c .before .before .before .before .before in
-    (fit-word _ _ (s .pre .0 .sorted) (s .pre .1 .0), λ a k x. c .before .before .before .before .begin .ensures _ a k)
+    (fit-mask _ _ (s .pre .0 .sorted) (s .pre .1 .0), λ a k x. c .before .before .before .before .begin .ensures _ a k)
 
 leaf-requires : tie.Need-leaf-requires
 leaf-requires c κs = search needs

@@ -4,7 +4,7 @@ use mathlib.Core.Path.{refl, sym, subst}
 use mathlib.Core.List.{List}
 use mathlib.Core.Logic.{inl, inr}
 use native.Mathlib.Omega.{arith}
-use Rattle.sheet.specs.Packed.{view}
+use Rattle.layout.specs.Packed.{view}
 use Rattle.prelude.specs.Lists.{at}
 use Rattle.solve.specs.Parts.{ReadOff}
 use Rattle.solve.proofs.Branching.{ReadingOff, read-none, read-decided, read-only}
@@ -13,10 +13,10 @@ use Rattle.solve.proofs.settle.Statement.{statement}
 use Rattle.solve.proofs.settle.Tie as tie
 
 abbrev Inv-loop : tie.InvT-loop
-Inv-loop p decided words codes₀ i₀ codes i = (i ≤ p .terms) × ReadingOff (view p) (at decided) words codes i
+Inv-loop p decided masks codes₀ i₀ codes i = (i ≤ p .terms) × ReadingOff (view p) (at decided) masks codes i
 
 abbrev μ-loop : tie.MeasureT-loop
-μ-loop p decided words codes₀ i₀ codes i = p .terms - i
+μ-loop p decided masks codes₀ i₀ codes i = p .terms - i
 
 loop-holds : tie.Need-loop-holds Inv-loop μ-loop
 loop-holds c = (omega arith, read-none _ _ _)

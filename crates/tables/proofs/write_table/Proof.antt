@@ -5,7 +5,8 @@ use mathlib.Core.Path.{_≡_, refl, ap, sym, _∙_}
 use lib.ListN.{length, take}
 use lib.Seq.{take-all}
 use Rattle.tables.specs.Grid.{cell, grid}
-use Rattle.tables.proofs.Grids.{next-row, row-start, row-more, length-row}
+use Rattle.prelude.proofs.Rows.{next-row, row-start}
+use Rattle.tables.proofs.Grids.{row-more, length-row}
 use borrow.Author.Needs.{needs}
 use Rattle.tables.proofs.write_table.Statement.{statement}
 use Rattle.tables.proofs.write_table.Tie as tie

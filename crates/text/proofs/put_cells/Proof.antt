@@ -2,13 +2,16 @@
 use borrow.Author.Needs.{needs}
 use Prim.Native.Nat.{_-_}
 use native.Mathlib.Omega.{arith}
+use mathlib.Core.Path.{refl}
 use lib.ListN.{length}
-use Rattle.text.proofs.Cells.{CellsWritten, none-written, next-fits, next-written, kept-length, all-written, all-short}
+use Rattle.text.specs.Text.{spaced}
+use Rattle.text.proofs.Decimal.{spaced-byte, spaced-append}
+use Rattle.text.proofs.Entries.{EntriesWritten, none-written, next-fits, next-written, kept-length, all-written, all-short}
 use Rattle.text.proofs.put_cells.Statement.{statement}
 use Rattle.text.proofs.put_cells.Tie as tie
 
 abbrev Inv-loop : tie.InvT-loop
-Inv-loop out₀ from cells at₀ i₀ out at i = CellsWritten out₀ from cells out at i
+Inv-loop out₀ from cells at₀ i₀ out at i = EntriesWritten spaced 4 out₀ from cells out at i
 
 abbrev μ-loop : tie.MeasureT-loop
 μ-loop out₀ from cells at₀ i₀ out at i = length cells - i
@@ -16,7 +19,7 @@ abbrev μ-loop : tie.MeasureT-loop
 loop-holds : tie.Need-loop-holds Inv-loop μ-loop
 loop-holds c =
     let m = c .before .before in
-    none-written (m .args .out .now) (m .args .from) (m .args .cells .now) (omega (arith, m .pre))
+    none-written spaced 4 refl (m .args .out .now) (m .args .from) (m .args .cells .now) (omega (arith, m .pre))
 
 shared-slice-read-put-spaced : tie.Need-shared-slice-read-put-spaced Inv-loop μ-loop
 shared-slice-read-put-spaced c = search needs
@@ -28,7 +31,7 @@ put-spaced-requires : tie.Need-put-spaced-requires Inv-loop μ-loop
 put-spaced-requires c κs =
     let m = c .before .before .before .before .before .before in
     let l = c .before .before .before in
-    next-fits (m .args .out .now) (m .args .from) (m .args .cells .now) (l .loop .out) (l .loop .at) (l .loop .i) (l .loop .inv) (m .pre) (c .before .before .loop-test .taken) (c .shared-slice-known2 .given (l .loop .i) .fits)
+    next-fits spaced 4 (m .args .out .now) (m .args .from) (m .args .cells .now) (l .loop .out) (l .loop .at) (l .loop .i) (l .loop .inv) spaced-append (m .pre) (c .before .before .loop-test .taken) (spaced-byte _ (c .shared-slice-known2 .given (l .loop .i) .fits))
 
 add-i : tie.Need-add-i Inv-loop μ-loop
 add-i c = search needs
@@ -40,19 +43,19 @@ loop-again : tie.Need-loop-again Inv-loop μ-loop
 loop-again c =
     let m = c .before .before .before .before .before .before .before .before .before in
     let l = c .before .before .before .before .before .before in
-    next-written (m .args .out .now) (m .args .from) (m .args .cells .now) (l .loop .out) (l .loop .at) (l .loop .i) (l .loop .inv) (m .pre) (c .before .before .before .before .before .loop-test .taken) (c .before .before .before .shared-slice-known2 .given (l .loop .i) .fits) _ _ (c .before .before .put-spaced .ensures)
+    next-written spaced 4 (m .args .out .now) (m .args .from) (m .args .cells .now) (l .loop .out) (l .loop .at) (l .loop .i) (l .loop .inv) spaced-append (m .pre) (c .before .before .before .before .before .loop-test .taken) (spaced-byte _ (c .before .before .before .shared-slice-known2 .given (l .loop .i) .fits)) (c .before .before .put-spaced .ensures)
 
 same-length : tie.Need-same-length Inv-loop μ-loop
 same-length c =
     let m = c .before .before .before .before in
     let l = c .before in
-    kept-length (m .args .out .now) (m .args .from) (m .args .cells .now) (l .loop .out) (l .loop .at) (l .loop .i) (l .loop .inv) (m .pre)
+    kept-length spaced 4 (m .args .out .now) (m .args .from) (m .args .cells .now) (l .loop .out) (l .loop .at) (l .loop .i) (l .loop .inv) (m .pre)
 
 returns : tie.Need-returns Inv-loop μ-loop
 returns c =
     let m = c .before .before .before .before in
     let l = c .before in
-    (all-written (m .args .out .now) (m .args .from) (m .args .cells .now) (l .loop .out) (l .loop .at) (l .loop .i) (l .loop .inv) (c .loop-test .left), all-short (m .args .out .now) (m .args .from) (m .args .cells .now) (l .loop .out) (l .loop .at) (l .loop .i) (l .loop .inv) (c .loop-test .left))
+    (all-written spaced 4 (m .args .out .now) (m .args .from) (m .args .cells .now) (l .loop .out) (l .loop .at) (l .loop .i) (l .loop .inv) (c .loop-test .left), all-short spaced 4 (m .args .out .now) (m .args .from) (m .args .cells .now) (l .loop .out) (l .loop .at) (l .loop .i) (l .loop .inv))
 
 pub put-cells-spec : {M : Type 1} → statement M
 put-cells-spec =

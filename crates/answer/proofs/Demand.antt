@@ -1,0 +1,163 @@
+-- Demand 3 holds of every accepted sheet. Structures and what fits go over into each other: a candidate that satisfies the sheet has
+-- sizes and codes that fit; what fits are the sizes and codes of the tables made from them, whatever the unreached cells hold.
+use Prim.Native.Nat.{ℕ, _≤_, _<_}
+use mathlib.Core.Path.{_≡_, refl, ap, sym, _∙_, subst}
+use mathlib.Core.Logic.{_⊎_, inl, inr}
+use mathlib.Core.List.{List, _∷_, map}
+use mathlib.Core.Option.{Option, none, some, Option·getD}
+use lib.ListN.{length}
+use native.Mathlib.Omega.{arith}
+use Rattle.logic.specs.Sheet.{Sheet, boundAt, symbolAt, termAt}
+use Rattle.logic.specs.WellFormed.{WellFormed}
+use Rattle.prelude.specs.Lists.{at, sumTo, firsts}
+use Rattle.prelude.proofs.Lists.{map-each, firsts-at, firsts-same}
+use Rattle.logic.specs.Structure.{Structure, InSorts, Candidate, Satisfies, codes, code}
+use Rattle.logic.specs.Order.{Before, sizesOf, sumOf, Earlier}
+use Rattle.logic.proofs.Orders.{no-later-exactly}
+use Rattle.logic.proofs.Meaning.{code-below, code-congruent, codes-own, length-codes}
+use Rattle.layout.specs.Layout.{accepted, reading}
+use Rattle.layout.proofs.Answers.{accepted-well-formed}
+use Rattle.answer.specs.Answer.{Entry, entryOf, cellOf, reachedCells, cellAt, structureWith, structureOf, unforced, answer, sum}
+use Rattle.answer.specs.Demand.{Answers, Demand, Hopeless, Unreached, InTables}
+use Rattle.answer.proofs.Lists.{found-or-none}
+use Rattle.answer.proofs.Solving.{TermOf, term-of, own-cell, solution-same}
+use Rattle.answer.proofs.Listing.{Fits, Chosen, chosen, Ahead, Sooner, sooner-asym, none-fits, sum-firsts}
+
+-- a candidate that satisfies the sheet fits
+pub structure-fits : (sh : Sheet) → WellFormed sh → (M : Structure) → Candidate M sh → Satisfies M sh → Fits sh (M .size) (code M sh)
+structure-fits sh w M k s =
+    record {
+      bounded = k .bounded;
+      range = code-below M sh w (k .interprets);
+      solution = record { congruent = code-congruent M sh w; meets = s };
+    }
+
+-- the tables made from what fits
+module _ (sh : Sheet) (w : WellFormed sh) (e : Entry) (f : Fits sh (at (e .sizes)) (at (e .codes))) (u : ℕ → List ℕ → ℕ) where
+  abbrev made : Structure
+  made = structureWith u sh e
+
+  -- a term's cell holds its code
+  held : (i : ℕ) → i < length (sh .terms) → (o : Option ℕ) → cellAt (cellOf (at (e .codes)) i (termAt sh i) .key) (reachedCells sh (e .codes)) ≡ o → (d : ℕ) → at (e .codes) i ≡ Option·getD o d
+  held i h none q d = absurd (own-cell sh (at (e .codes)) i h q)
+  held i h (some v) q d =
+      let t : TermOf sh (at (e .codes)) (termAt sh i .symbol) (map (at (e .codes)) (termAt sh i .args)) v =
+      term-of sh (at (e .codes)) (termAt sh i .symbol) (map (at (e .codes)) (termAt sh i .args)) v q in
+      f .solution .congruent i (t .number) h (t .there) (sym (t .symbol)) (sym (t .args)) ∙ t .code
+
+  pub made-code : (i : ℕ) → i < length (sh .terms) → code made sh i ≡ at (e .codes) i
+  made-code =
+      codes-own made sh w (at (e .codes))
+      (λ i h. held i h (cellAt (cellOf (at (e .codes)) i (termAt sh i) .key) (reachedCells sh (e .codes))) refl (u (termAt sh i .symbol) (map (at (e .codes)) (termAt sh i .args))))
+
+  -- each cell is in range
+  below : InTables sh (at (e .sizes)) u → (g : ℕ) → g < length (sh .symbols) → (cs : List ℕ) → InSorts (at (e .sizes)) (symbolAt sh g .params) cs → (o : Option ℕ) → cellAt (g ∷ cs) (reachedCells sh (e .codes)) ≡ o → Option·getD o (u g cs) < at (e .sizes) (symbolAt sh g .result)
+  below t g h cs l none q = t g h cs l
+  below t g h cs l (some v) q =
+      let r : TermOf sh (at (e .codes)) g cs v = term-of sh (at (e .codes)) g cs v q in
+      subst (λ (x : ℕ). x < at (e .sizes) (symbolAt sh g .result)) (r .code)
+      (subst (λ (j : ℕ). at (e .codes) (r .number) < at (e .sizes) (symbolAt sh j .result)) (r .symbol) (f .range (r .number) (r .there)))
+
+  -- a cell that no term reaches holds what u says
+  pub made-unreached : (g : ℕ) (xs : List ℕ) → Unreached sh made g xs → made .table g xs ≡ u g xs
+  made-unreached g xs h = step (cellAt (g ∷ xs) (reachedCells sh (e .codes))) refl
+    where
+      step : (o : Option ℕ) → cellAt (g ∷ xs) (reachedCells sh (e .codes)) ≡ o → Option·getD o (u g xs) ≡ u g xs
+      step none q = refl
+      step (some v) q =
+          let r : TermOf sh (at (e .codes)) g xs v = term-of sh (at (e .codes)) g xs v q in
+          let args : map (code made sh) (termAt sh (r .number) .args) ≡ map (at (e .codes)) (termAt sh (r .number) .args) =
+          map-each (code made sh) (at (e .codes)) (λ a. a < r .number) (λ a l. made-code a (omega (arith, r .there))) (termAt sh (r .number) .args) (w .args (r .number) (r .there)) in
+          absurd (h (r .number) (r .there) (r .symbol) (args ∙ r .args))
+
+  pub made-candidate : InTables sh (at (e .sizes)) u → Candidate made sh
+  made-candidate t =
+      record {
+        interprets = record {
+          nonempty = λ s h. omega (arith, w .floor s h .0, f .bounded .floor s h);
+          complete = λ g h cs l. below t g h cs l (cellAt (g ∷ cs) (reachedCells sh (e .codes))) refl;
+        };
+        bounded = f .bounded;
+      }
+
+  pub made-satisfies : Satisfies made sh
+  made-satisfies = solution-same sh w (at (e .codes)) (code made sh) (λ i h. sym (made-code i h)) (f .solution) .meets
+
+-- The order of structures is that of their sizes and codes.
+earlier-sooner : (sh : Sheet) (e : Entry) → Chosen sh e → (N M : Structure) → sizesOf M sh ≡ e .sizes → sumOf M sh ≡ sum (e .sizes) → codes M sh ≡ e .codes → Earlier sh N M → Sooner (entryOf sh (N .size) (code N sh)) e
+earlier-sooner sh e k N M p q r (inl l) = inl (omega (arith, sum-firsts (length (sh .bounds)) (N .size), q))
+earlier-sooner sh e k N M p q r (inr l) =
+    inr (sum-firsts (length (sh .bounds)) (N .size) ∙ l .0 ∙ q, step (l .1))
+  where
+    own : firsts (length (sh .terms)) (code N sh) ≡ codes N sh
+    own = firsts-at (length (sh .terms)) (codes N sh) (length-codes N sh)
+
+    step : Before (sizesOf N sh) (sizesOf M sh) ⊎ ((sizesOf N sh ≡ sizesOf M sh) × Before (codes N sh) (codes M sh)) → Ahead (entryOf sh (N .size) (code N sh)) e
+    step (inl b) = inl (rw (← p) b)
+    step (inr b) = inr (b .0 ∙ p, rw (own, ← r) (b .1))
+
+-- the tables of the answer, whatever the unreached cells hold
+pub answers-with : (sh : Sheet) → WellFormed sh → (e : Entry) → answer sh ≡ some e → (u : ℕ → List ℕ → ℕ) → InTables sh (at (e .sizes)) u → Answers sh e (structureWith u sh e)
+answers-with sh w e q u t =
+    record {
+      candidate = made-candidate sh w e (k .fits) u t;
+      satisfies = made-satisfies sh w e (k .fits) u;
+      sum = sums;
+      sizes = k .sizes;
+      codes = own;
+      first = λ N c s.
+          no-later-exactly sh (structureWith u sh e) N .1
+          (λ l. no-sooner (structure-fits sh w N c s) (earlier-sooner sh e k N (structureWith u sh e) (k .sizes) sums own l));
+    }
+  where
+    k : Chosen sh e
+    k = chosen sh w e q
+
+    sums : sumTo (length (sh .bounds)) (at (e .sizes)) ≡ sum (e .sizes)
+    sums = sym (sum-firsts (length (sh .bounds)) (at (e .sizes))) ∙ ap sum (k .sizes)
+
+    own : codes (structureWith u sh e) sh ≡ e .codes
+    own =
+        sym (firsts-at (length (sh .terms)) (codes (structureWith u sh e) sh) (length-codes (structureWith u sh e) sh))
+        ∙ firsts-same (length (sh .terms)) (code (structureWith u sh e) sh) (at (e .codes)) (made-code sh w e (k .fits) u)
+        ∙ k .codes
+
+    no-sooner : {size c : ℕ → ℕ} → Fits sh size c → Sooner (entryOf sh size c) e → ⊥
+    no-sooner {size} {c} g s =
+        elim (k .first size c g) [
+          | inl p ↦ sooner-asym e e (subst (λ (d : Entry). Sooner d e) p s) (subst (λ (d : Entry). Sooner d e) p s)
+          | inr l ↦ sooner-asym e (entryOf sh size c) l s
+        ]
+
+-- what the answer puts in an unreached cell is a code of its sort
+unforced-in-tables : (sh : Sheet) (e : Entry) → ((s : ℕ) → s < length (sh .bounds) → 1 ≤ at (e .sizes) s) → WellFormed sh → InTables sh (at (e .sizes)) (unforced sh e)
+unfolding unforced
+unforced-in-tables sh e h w f l cs i = h (symbolAt sh f .result) (w .result f l)
+
+pub demand : (sh : Sheet) → WellFormed sh → Demand sh
+demand sh w =
+    record {
+      refuses = (
+        λ q M c s. none-fits sh w q (M .size) (code M sh) (structure-fits sh w M c s),
+        λ h. elim (found-or-none (answer sh)) [ inl q ↦ q | inr r ↦ absurd (hope h (r .0) (r .1)) ],
+      );
+      finds = answered;
+      unreached = λ e q. made-unreached sh w e (chosen sh w e q .fits) (unforced sh e);
+    }
+  where
+    answered : (e : Entry) → answer sh ≡ some e → Answers sh e (structureOf sh e)
+    answered e q =
+        let f : Fits sh (at (e .sizes)) (at (e .codes)) = chosen sh w e q .fits in
+        answers-with sh w e q (unforced sh e)
+        (unforced-in-tables sh e (λ s h. omega (arith, w .floor s h .0, f .bounded .floor s h)) w)
+
+    hope : Hopeless sh → (e : Entry) → answer sh ≡ some e → ⊥
+    hope h e q = let a : Answers sh e (structureOf sh e) = answered e q in h (structureOf sh e) (a .candidate) (a .satisfies)
+
+-- THEOREM: demand 3 of every accepted sheet
+pub accepted-demand : (s : List ℕ) (sh : Sheet) → reading s ≡ accepted sh → Demand sh
+accepted-demand s sh q = demand sh (accepted-well-formed s sh q)
+
+-- a floor above its ceiling leaves no candidate: refusal 11
+pub floor-above-ceiling : (sh : Sheet) (s : ℕ) → s < length (sh .bounds) → boundAt sh s .ceiling < boundAt sh s .floor → Hopeless sh
+floor-above-ceiling sh s h l M k q = omega (arith, k .bounded .floor s h, k .bounded .ceiling s h)

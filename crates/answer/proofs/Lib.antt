@@ -1,0 +1,7 @@
+pub mod Lists
+pub mod Boxes
+pub mod Solving
+pub mod Listing
+pub mod Demand
+pub mod Joint
+pub mod Coincide

@@ -1,0 +1,13 @@
+pub mod View
+pub mod Payloads
+pub mod Causes
+pub mod Pack
+pub mod AtMostTwo
+pub mod Terms
+pub mod ByKind
+pub mod Growing
+pub mod Records
+pub mod Longest
+pub mod Encoding
+pub mod Written
+pub mod Answers

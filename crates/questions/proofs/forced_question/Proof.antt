@@ -1,0 +1,103 @@
+-- `questions::forced_question` meets its contract.
+use native.Mathlib.Omega.{arith}
+use mathlib.Core.List.{List}
+use Prim.Native.Nat.{ℕ}
+use mathlib.Core.Path.{refl, sym, ap, ap₂, _∙_}
+use lib.Seq.{length-take-le}
+use Rattle.words.specs.Words.{numberOf}
+use Rattle.forced.specs.Forcing.{forcing}
+use Rattle.lines.specs.Lines.{forcingLine}
+use Rattle.text.specs.Ascii.{ascii}
+use Rattle.questions.specs.Questions.{forcedReply, bytesAt, numberAt}
+use Rattle.questions.proofs.Asking.{bytes-at, complains, answers}
+use Rattle.questions.proofs.forced_question.Statement.{statement}
+use Rattle.questions.proofs.forced_question.Tie as tie
+
+slice-aggregate-wrong-with : tie.Need-slice-aggregate-wrong-with
+slice-aggregate-wrong-with c = refl
+
+wrong-with-requires : tie.Need-wrong-with-requires
+wrong-with-requires c κs = tt
+
+is-wrong-requires : tie.Need-is-wrong-requires
+is-wrong-requires c κs = tt
+
+complaint-line-requires : tie.Need-complaint-line-requires
+complaint-line-requires c κs = omega (arith, c .before .before .before .before .before .before .before .pre .1)
+
+same-length : tie.Need-same-length
+same-length c = c .before .before .complaint-line .kept .0
+
+returns : tie.Need-returns
+unfolding forcedReply
+returns c = let m = c .before .before .before .before .before .before .before .before .before .before in complains (ascii "bnn") (m .args .line .now) (forcingLine (forcing (bytesAt (m .args .line .now) 1) (numberAt (m .args .line .now) 2) (numberAt (m .args .line .now) 3))) (c .before .before .before .before .before .before .wrong-with .result) (c .before .before .before .before .before .is-wrong .result) (c .before .before .before .before .before .before .wrong-with .ensures) (c .before .before .before .before .before .is-wrong .ensures) (c .before .before .before .before .if1 .taken) (c .before .before .complaint-line .ensures)
+
+word-requires : tie.Need-word-requires
+word-requires c κs = tt
+
+slice-aggregate-decode : tie.Need-slice-aggregate-decode
+slice-aggregate-decode c = refl
+
+decode-requires : tie.Need-decode-requires
+decode-requires c κs = omega (arith, c .before .word .ensures .1, c .before .before .before .before .before .before .before .before .pre .0)
+
+word-requires-2 : tie.Need-word-requires-2
+word-requires-2 c κs = tt
+
+number-requires : tie.Need-number-requires
+number-requires c κs = tt
+
+word-requires-3 : tie.Need-word-requires-3
+word-requires-3 c κs = tt
+
+number-requires-2 : tie.Need-number-requires-2
+number-requires-2 c κs = tt
+
+array-share-prefix-sheet : tie.Need-array-share-prefix-sheet
+array-share-prefix-sheet c = c .before .before .before .before .before .before .decode .ensures .within
+
+slice-aggregate-forced : tie.Need-slice-aggregate-forced
+slice-aggregate-forced c = sym (length-take-le _ _ (c .before .before .before .before .before .before .before .decode .ensures .within))
+
+forced-requires : tie.Need-forced-requires
+forced-requires c κs = tt
+
+forcing-line-requires : tie.Need-forcing-line-requires
+forcing-line-requires c κs = omega (arith, c .before .before .before .before .before .before .before .before .before .before .before .before .before .before .before .before .before .pre .1)
+
+same-length-2 : tie.Need-same-length-2
+same-length-2 c = c .before .before .forcing-line .kept .0
+
+returns-2 : tie.Need-returns-2
+unfolding forcedReply
+returns-2 c = let m = c .before .before .before .before .before .before .before .before .before .before .before .before .before .before .before .before .before .before .before .before in let l = m .args .line .now in
+    let s = bytes-at l 1 (c .before .before .before .before .before .before .before .before .before .before .before .decode .ensures) (c .before .before .before .before .before .before .before .before .before .before .before .before .before .word .ensures .0) in
+    let a = c .before .before .before .before .before .before .before .before .number .ensures ∙ ap numberOf (c .before .before .before .before .before .before .before .before .before .word2 .ensures .0) in
+    let b = c .before .before .before .before .before .before .number2 .ensures ∙ ap numberOf (c .before .before .before .before .before .before .before .word3 .ensures .0) in
+    answers (ascii "bnn") (m .args .line .now) (forcingLine (forcing (bytesAt (m .args .line .now) 1) (numberAt (m .args .line .now) 2) (numberAt (m .args .line .now) 3))) (c .before .before .before .before .before .before .before .before .before .before .before .before .before .before .before .before .wrong-with .result) (c .before .before .before .before .before .before .before .before .before .before .before .before .before .before .before .is-wrong .result) (c .before .before .before .before .before .before .before .before .before .before .before .before .before .before .before .before .wrong-with .ensures) (c .before .before .before .before .before .before .before .before .before .before .before .before .before .before .before .is-wrong .ensures) (c .before .before .before .before .before .before .before .before .before .before .before .before .before .before .if1 .left)
+    (ap forcingLine (c .before .before .before .forced .ensures ∙ ap (λ (x : List ℕ). forcing x (c .before .before .before .before .before .before .before .before .number .result) (c .before .before .before .before .before .before .number2 .result)) s ∙ ap₂ (forcing (bytesAt l 1)) a b))
+    (c .before .before .forcing-line .ensures)
+
+pub forced-question-spec : {M : Type 1} → statement M
+forced-question-spec =
+    tie.close
+    (tie.spec
+    slice-aggregate-wrong-with
+    wrong-with-requires
+    is-wrong-requires
+    complaint-line-requires
+    same-length
+    returns
+    word-requires
+    slice-aggregate-decode
+    decode-requires
+    word-requires-2
+    number-requires
+    word-requires-3
+    number-requires-2
+    array-share-prefix-sheet
+    slice-aggregate-forced
+    forced-requires
+    forcing-line-requires
+    same-length-2
+    returns-2)

@@ -1,0 +1,51 @@
+-- Interface. WHAT ASK PRINTS for a line, whatever the line is (docs/FORMAT.md, "Asking line by line").
+use Prim.Native.Nat.{ℕ, _-_}
+use mathlib.Core.Bool.{cond}
+use mathlib.Core.List.{List}
+use lib.ListN.{length, take, getD}
+use lib.Dec.{ltb, eqb}
+use Rattle.prelude.specs.Tests.{sameList}
+use Rattle.text.specs.Ascii.{ascii}
+use Rattle.text.specs.Text.{answerLine}
+use Rattle.words.specs.Words.{wordAt}
+use Rattle.tables.specs.Layout.{encoded}
+use Rattle.answer.specs.Answer.{sum, structureOf}
+use Rattle.finder.specs.Find.{Outcome, turnedDown, answered, outcome}
+use Rattle.lines.specs.Lines.{refusalLine, emptyLine, longLine, unknownLine}
+use Rattle.questions.specs.Questions.{bytesAt, numberAt, unlessWrong, readReply, judgeReply, forcedReply, tableReply}
+
+-- the answer line of find
+abbrev pub findLine : Outcome → List ℕ
+findLine (turnedDown number place) = refusalLine number place
+findLine (answered sh e) = answerLine (sum (e .sizes)) (e .codes) (encoded (structureOf sh e) sh)
+
+-- find SHEET CODELEN TABLELEN
+unfoldable pub findReply : List ℕ → List ℕ
+findReply line = unlessWrong (ascii "bnn") line (findLine (outcome (bytesAt line 1) (numberAt line 2) (numberAt line 3)))
+
+-- the answer by the verb
+abbrev pub verbReply : List ℕ → List ℕ → List ℕ
+verbReply verb line =
+    cond (sameList verb (ascii "read")) (readReply line)
+    (cond (sameList verb (ascii "find")) (findReply line)
+    (cond (sameList verb (ascii "judge")) (judgeReply line)
+    (cond (sameList verb (ascii "forced")) (forcedReply line)
+    (cond (sameList verb (ascii "table")) (tableReply line) unknownLine))))
+
+unfoldable pub asked : List ℕ → List ℕ
+asked line = verbReply (wordAt line 0) line
+
+-- a carriage return at the end of a line is no part of it
+unfoldable pub withoutReturn : List ℕ → List ℕ
+withoutReturn line = cond (eqb (getD line (length line - 1) 0) 13) (take (length line - 1) line) line
+
+-- the most characters of a line
+abbrev pub mostCharacters : ℕ
+mostCharacters = 262144
+
+abbrev pub sized : List ℕ → List ℕ
+sized line = cond (eqb (length line) 0) emptyLine (cond (ltb mostCharacters (length line)) longLine (asked line))
+
+-- THE ANSWER LINE of a line
+unfoldable pub reply : List ℕ → List ℕ
+reply line = sized (withoutReturn line)

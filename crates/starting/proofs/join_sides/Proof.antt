@@ -1,0 +1,46 @@
+-- `starting::join_sides` meets its contract.
+use mathlib.Core.Path.{ap, sym, _∙_}
+use Rattle.knowledge.proofs.Keeping.{step}
+use borrow.Author.Needs.{needs}
+use native.Mathlib.Omega.{arith}
+use Rattle.starting.proofs.join_sides.Statement.{statement}
+use Rattle.starting.proofs.join_sides.Tie as tie
+
+element-copy-out-e : tie.Need-element-copy-out-e
+element-copy-out-e c = search needs
+
+element-copy-out-wide : tie.Need-element-copy-out-wide
+element-copy-out-wide c = search needs
+
+wide-requires : tie.Need-wide-requires
+wide-requires c κs = search needs
+
+element-copy-out-wide-2 : tie.Need-element-copy-out-wide-2
+element-copy-out-wide-2 c = search needs
+
+wide-requires-2 : tie.Need-wide-requires-2
+wide-requires-2 c κs = search needs
+
+join-requires : tie.Need-join-requires
+join-requires c κs = search needs
+
+returns : tie.Need-returns
+returns c =
+    let k = c .before .before .before .before .before .before .before .before .before .before .args .k in
+    step (λ a h n. ap a (c .before .before .before .wide .ensures .0) ∙ h k (omega arith) (c .before .before .before .before .before .before .before .before .if1 .taken) ∙ sym (ap a (c .before .wide2 .ensures .0))) (c .join .ensures)
+
+returns-2 : tie.Need-returns-2
+returns-2 c = search needs
+
+pub join-sides-spec : {M : Type 1} → statement M
+join-sides-spec =
+    tie.close
+    (tie.spec
+    element-copy-out-e
+    element-copy-out-wide
+    wide-requires
+    element-copy-out-wide-2
+    wide-requires-2
+    join-requires
+    returns
+    returns-2)

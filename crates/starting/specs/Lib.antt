@@ -1,0 +1,3 @@
+-- The interface: Given (what the contracts of the public functions rest on). For the proofs: Parts.
+pub mod Given
+pub mod Parts

@@ -1,0 +1,180 @@
+// What was compared, how often, and where the entry points and the listing differ.
+use test_sheets::numbers::wide;
+use test_sheets::plan::LITERALS;
+use test_sheets::plan::PLAN;
+use test_sheets::plan::SORTS;
+use test_sheets::plan::SYMBOLS;
+use test_sheets::plan::TERMS;
+use test_sheets::plan::count;
+use test_sheets::plan::record_at;
+
+pub const COUNTS: usize = 22;
+
+// The counts, in the order of the report.
+pub const DRAWN: usize = 0;
+
+pub const NO_SYMBOLS: usize = 1;
+
+pub const NO_TERMS: usize = 2;
+
+pub const NO_LITERALS: usize = 3;
+
+pub const CROSSED: usize = 4;
+
+pub const LISTED: usize = 5;
+
+pub const CANDIDATES: usize = 6;
+
+pub const FOUND: usize = 7;
+
+pub const NO_ANSWER: usize = 8;
+
+pub const SHORT: usize = 9;
+
+pub const FITS: usize = 10;
+
+pub const OUT_OF_BOUNDS: usize = 11;
+
+pub const BROKEN: usize = 12;
+
+pub const DAMAGED: usize = 13;
+
+pub const STRETCH: usize = 14;
+
+pub const EMPTY: usize = 15;
+
+pub const SETTLED: usize = 16;
+
+pub const STRUCTURES: usize = 17;
+
+pub const FORCED: usize = 18;
+
+pub const FREE: usize = 19;
+
+pub const NO_PAIR: usize = 20;
+
+pub const DIFFERENCES: usize = 21;
+
+pub fn add(counts: &mut [u64; COUNTS], at: usize, n: usize) {
+    let k = at % COUNTS;
+    counts[k] = std::num::wrapping_add_u64(counts[k], n as u64);
+}
+
+// Counts the sheet and what is special about it.
+pub fn drawn(p: [u8; PLAN], counts: &mut [u64; COUNTS]) {
+    add(counts, DRAWN, 1);
+    add(counts, NO_SYMBOLS, none(p, SYMBOLS));
+    add(counts, NO_TERMS, none(p, TERMS));
+    add(counts, NO_LITERALS, none(p, LITERALS));
+    add(counts, CROSSED, crossed(p));
+}
+
+// Counts an outcome that the listing says, and prints the sheet where the answer to the question is another one.
+pub fn expect(
+    agrees: bool,
+    outcome: usize,
+    question: &[u8],
+    sheet: &[u8],
+    counts: &mut [u64; COUNTS],
+) {
+    add(counts, outcome, 1);
+    if !agrees {
+        add(counts, DIFFERENCES, 1);
+        io::write_all(1, question);
+        io::write_all(1, b" differs on ");
+        print_hex(sheet);
+        io::write_all(1, b"\n");
+    }
+}
+
+// A refusal as a number: 1000 and its number at place 0, and no such number elsewhere.
+pub fn refusal(number: u8, place: usize) -> usize {
+    if place == 0 {
+        1000 + wide(number)
+    } else {
+        2000
+    }
+}
+
+pub fn report(counts: &[u64; COUNTS]) {
+    let n = report_find(counts, report_sheets(counts, 0));
+    fill(
+        b"differences #\n",
+        counts,
+        report_forced(counts, report_judge(counts, n)),
+    );
+}
+
+fn report_sheets(counts: &[u64; COUNTS], n: usize) -> usize {
+    fill(
+        b"sheets drawn #\n- without names #\n- without expressions #\n- without statements #\n- with a floor above its ceiling #\n",
+        counts,
+        n,
+    )
+}
+
+fn report_find(counts: &[u64; COUNTS], n: usize) -> usize {
+    fill(
+        b"find and judge: sheets #\n- interpretations listed #\n- found #\n- refused 11 #\n- refused 10, a buffer one byte short #\n",
+        counts,
+        n,
+    )
+}
+
+fn report_judge(counts: &[u64; COUNTS], n: usize) -> usize {
+    fill(
+        b"- fits #\n- out of bounds #\n- broken statement #\n- refused 12, damaged tables #\ntable of a name: tables #\n- empty, no such name or damaged tables #\n",
+        counts,
+        n,
+    )
+}
+
+fn report_forced(counts: &[u64; COUNTS], n: usize) -> usize {
+    fill(
+        b"forced: sheets #\n- interpretations listed #\n- yes #\n- no #\n- refused 13 #\n",
+        counts,
+        n,
+    )
+}
+
+// Writes the text with a count in place of each #, from count n on, and gives the number of the next count.
+fn fill(text: &[u8], counts: &[u64; COUNTS], n: usize) -> usize {
+    let mut next = n;
+    for k in 0..text.len() {
+        if text[k] == b'#' {
+            let c = next % COUNTS;
+            io::print_decimal(1, counts[c]);
+            next = c + 1;
+        } else {
+            io::write_all(1, &text[k..k + 1]);
+        }
+    }
+    next
+}
+
+// 1 where a part has no record.
+fn none(p: [u8; PLAN], part: usize) -> usize {
+    if count(p, part) == 0 { 1 } else { 0 }
+}
+
+// 1 where some sort has its floor above its ceiling.
+fn crossed(p: [u8; PLAN]) -> usize {
+    let a = record_at(p, SORTS, 0);
+    let b = record_at(p, SORTS, 1);
+    let c = record_at(p, SORTS, 2);
+    if a.y < a.x || b.y < b.x || c.y < c.x {
+        1
+    } else {
+        0
+    }
+}
+
+fn print_hex(bytes: &[u8]) {
+    for k in 0..bytes.len() {
+        io::print_hex(1, long(bytes[k]), 2);
+    }
+}
+
+fn long(x: u8) -> u64 {
+    x as u64
+}

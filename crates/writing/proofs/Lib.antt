@@ -1,0 +1,4 @@
+pub mod Reach
+pub mod Filling
+pub mod Writing
+pub mod Answering

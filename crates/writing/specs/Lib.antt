@@ -1,0 +1,3 @@
+-- Written is the interface; Parts serves the proofs.
+pub mod Written
+pub mod Parts
