@@ -14,16 +14,16 @@ digits() {
     head -c "$1" /dev/zero | tr '\0' 0
 }
 
-expect "a line of 262,144 characters" "refused 1 0" "refused 1 0" < <(printf 'judge - '; digits 262136; printf '\nread -\n')
-expect "a line of 262,145 characters" "? the line is too long" "refused 1 0" < <(printf 'judge - '; digits 262137; printf '\nread -\n')
-expect "the longest line with a carriage return" "refused 1 0" "refused 1 0" < <(printf 'judge - '; digits 262136; printf '\r\nread -\n')
-expect "a line of a million characters" "? the line is too long" "refused 1 0" < <(digits 1000000; printf '\nread -\n')
+expect "a line of 262,144 characters" "refused 12 0" "accepted" < <(printf 'judge - '; digits 262136; printf '\nread -\n')
+expect "a line of 262,145 characters" "? the line is too long" "accepted" < <(printf 'judge - '; digits 262137; printf '\nread -\n')
+expect "the longest line with a carriage return" "refused 12 0" "accepted" < <(printf 'judge - '; digits 262136; printf '\r\nread -\n')
+expect "a line of a million characters" "? the line is too long" "accepted" < <(digits 1000000; printf '\nread -\n')
 expect "a sheet of 4,096 bytes is read" "refused 3 0" < <(printf 'read '; digits 8192; printf '\n')
 expect "a sheet of 4,097 bytes is not" "refused 1 0" < <(printf 'read '; digits 8194; printf '\n')
-expect "a carriage return at the end of a line" "refused 1 0" "? not hexadecimal: word 2" "? not hexadecimal: word 2" "? empty line" \
+expect "a carriage return at the end of a line" "accepted" "? not hexadecimal: word 2" "? not hexadecimal: word 2" "? empty line" \
     < <(printf 'read -\r\nread \r\nread -\r\r\n\r\n')
-expect "a last line without a line feed" "refused 1 0" "refused 1 0" < <(printf 'read -\nread -')
-expect "an empty last line" "refused 1 0" "? empty line" < <(printf 'read -\n\n')
+expect "a last line without a line feed" "accepted" "accepted" < <(printf 'read -\nread -')
+expect "an empty last line" "accepted" "? empty line" < <(printf 'read -\n\n')
 asked=$((asked + 1))
 [ -z "$(target/bin/ask 2>&1 </dev/null)" ] || { echo "ask: no input has an answer"; failed=1; }
 
@@ -32,7 +32,7 @@ coproc target/bin/ask
 echo 'read -' >&"${COPROC[1]}"
 answer=
 read -r -t 20 answer <&"${COPROC[0]}"
-[ "$answer" = "refused 1 0" ] || { echo "ask: an answer waits for the end of the input"; failed=1; }
+[ "$answer" = "accepted" ] || { echo "ask: an answer waits for the end of the input"; failed=1; }
 kill "$COPROC_PID" 2>/dev/null
 
 # a read and a write that fail are said on standard error, and end the program, though more is asked

@@ -84,9 +84,11 @@ static void accepted(const char *name, const uint8_t *sheet, size_t length, uint
         expect(find(sheet, length, codes, most.expressions - 1, tables, most.tables) == 10u << 16, "short code buffer is 10", name);
         expect(untouched(pattern), "refusal 10 leaves the buffers", name);
     }
-    fill(pattern);
-    expect(find(sheet, length, codes, most.expressions, tables, most.tables - 1) == 10u << 16, "short table buffer is 10", name);
-    expect(untouched(pattern), "refusal 10 leaves the buffers", name);
+    if (most.tables) {
+        fill(pattern);
+        expect(find(sheet, length, codes, most.expressions, tables, most.tables - 1) == 10u << 16, "short table buffer is 10", name);
+        expect(untouched(pattern), "refusal 10 leaves the buffers", name);
+    }
     fill(pattern);
     uint32_t found = find(sheet, length, codes, most.expressions, tables, most.tables);
     if (found >> 16) {
@@ -98,8 +100,11 @@ static void accepted(const char *name, const uint8_t *sheet, size_t length, uint
     expect(kept(room_codes, sizeof room_codes, e.expressions, pattern), "bytes behind the codes stay", name);
     expect(kept(room_tables, sizeof room_tables, e.tables, pattern), "bytes behind the tables stay", name);
     expect(judge(sheet, length, tables, e.tables) == 0, "what was found fits", name);
-    expect(judge(sheet, length, tables, e.tables - 1) == 12u << 16, "one byte short is 12", name);
-    expect(judge(sheet, length, NULL, 0) == 12u << 16, "no tables are 12", name);
+    expect(judge(sheet, length, tables, e.tables + 1) == 12u << 16, "one byte more is 12", name);
+    if (e.tables) {
+        expect(judge(sheet, length, tables, e.tables - 1) == 12u << 16, "one byte short is 12", name);
+        expect(judge(sheet, length, NULL, 0) == 12u << 16, "no tables are 12", name);
+    }
 }
 
 int main(int count, char **words)
@@ -108,12 +113,15 @@ int main(int count, char **words)
     for (int round = 0; round < 2; round++) {
         uint8_t pattern = round ? 0x5a : 0xff;
         fill(pattern);
-        expect(find(NULL, 0, codes, MOST_CODES, tables, MOST_TABLES) == 1u << 16, "no sheet is 1", "find");
+        expect(find(NULL, 0, codes, MOST_CODES, tables, MOST_TABLES) == 0, "zero bytes have sum 0", "find");
+        expect(find(NULL, 0, NULL, 0, NULL, 0) == 0, "zero bytes ask for no buffer", "find");
+        expect(find(sheet, 0, codes, 0, tables, 0) == 0, "zero bytes at a pointer have sum 0", "find");
         expect(find(sheet, MOST_SHEET, codes, MOST_CODES, tables, MOST_TABLES) == 1u << 16, "4,097 bytes are 1", "find");
         expect(find(sheet, 3, NULL, 0, NULL, 0) == 2u << 16, "a cut head is 2", "find");
-        expect(judge(NULL, 0, tables, 1) == 1u << 16, "no sheet is 1", "judge");
+        expect(judge(NULL, 0, NULL, 0) == 0, "no tables fit zero bytes", "judge");
+        expect(judge(NULL, 0, tables, 1) == 12u << 16, "all others are 12", "judge");
         expect(judge(sheet, MOST_SHEET, NULL, 0) == 1u << 16, "4,097 bytes are 1", "judge");
-        expect(untouched(pattern), "refusals leave the buffers", "find");
+        expect(untouched(pattern), "refusals and zero bytes leave the buffers", "find");
         for (int i = 1; i < count; i++) {
             FILE *file = fopen(words[i], "rb");
             expect(file != NULL, "the sheet can be read", words[i]);

@@ -25,7 +25,7 @@ reading-place s n i e = by (decLe (length s) 4096)
   where
     by : Dec (length s ≤ 4096) → i ≤ 4096
     by (yes h) = omega (arith, refused-place s n i e)
-    by (no h) = let z : i ≡ 0 = cc (reading-long s (λ z. omega arith) (omega arith)) in omega arith
+    by (no h) = let z : i ≡ 0 = cc (reading-long s (omega arith)) in omega arith
 
 pub judge-place : (s t : List ℕ) (n i : ℕ) → judgement s t ≡ Refused n i → i < 65536
 unfolding judgement

@@ -4,14 +4,14 @@ use Prim.Native.Nat.{ℕ, zero, suc, _+_, _≤_}
 use native.Mathlib.Omega.{arith}
 use mathlib.Core.Logic.{_↔_}
 use mathlib.Core.Path.{_≡_, refl, ap, sym, _∙_, subst}
-use mathlib.Core.Bool.{Bool, true, false, _||_, cond}
+use mathlib.Core.Bool.{Bool, true, false, not, _&&_, cond}
 use mathlib.Core.List.{List}
 use lib.ListN.{length, take, drop}
 use lib.Seq.{take-all}
 use lib.Dec.{leb, ltb, eqb}
-use borrow.Author.Tests.{leb-true, leb-false, eqb-true, eqb-false}
+use borrow.Author.Tests.{leb-true, leb-false, eqb-true, eqb-false, eq-eqb, not-false}
 use Rattle.logic.specs.Sheet.{Sheet}
-use Rattle.logic.specs.WellFormed.{WellFormed}
+use Rattle.logic.specs.WellFormed.{WellFormed, Ended}
 use Rattle.layout.specs.Layout
 use Rattle.layout.specs.Layout.{kindOf, cause, accepted, refused, ended, readFrom, reading, empty, misplaced, wrongLength, tooMany, outOfRange, illSorted, repeated}
 use Rattle.records.specs.Record.{kindAt, lengthAt, payloadAt}
@@ -24,7 +24,7 @@ use Rattle.layout.proofs.Causes.{reached-5}
 use Rattle.layout.proofs.Growing.{grown, empty-sofar, fine}
 use Rattle.layout.proofs.Longest.{encode-longest}
 use Rattle.layout.proofs.Encoding.{encode-read}
-use Rattle.layout.proofs.Written.{written, written-none, written-next, written-all}
+use Rattle.layout.proofs.Written.{encode-empty, encode-some, encode-next}
 use Rattle.layout.proofs.Records.{from-end, from-fault, from-good, fault-none}
 use Rattle.records.proofs.Steps.{uncut}
 
@@ -67,7 +67,7 @@ positive zero h = absurd (h refl)
 positive (suc m) h = omega arith
 
 ended-listed : (s : List ℕ) (sh : Sheet) (m j : ℕ) → ended s sh ≡ refused m j → Listed s m j
-ended-listed s sh m j e = go (eqb (sh .total) 0) e
+ended-listed s sh m j e = go (eqb (sh .total) 0 && not (eqb (length s) 0)) e
   where
     go : (b : Bool) → cond b (refused 9 (length s)) (accepted sh) ≡ refused m j → Listed s m j
     go true z = let y = same-number 9 m (length s) j z in record { least = omega arith; most = omega arith; place = omega arith }
@@ -94,7 +94,7 @@ from-listed (suc n) s i sh m j e =
 
 pub refused-listed : (s : List ℕ) (n i : ℕ) → reading s ≡ refused n i → Listed s n i
 unfolding reading
-refused-listed s n i e = go (eqb (length s) 0 || ltb 4096 (length s)) e
+refused-listed s n i e = go (ltb 4096 (length s)) e
   where
     go : (b : Bool) → cond b (refused 1 0) (readFrom (length s) s 0 empty) ≡ refused n i → Listed s n i
     go true z = let y = same-number 1 n 0 i z in record { least = omega arith; most = omega arith; place = omega arith }
@@ -107,30 +107,33 @@ pub refused-place : (s : List ℕ) (n i : ℕ) → reading s ≡ refused n i →
 refused-place s n i e = refused-listed s n i e .place
 
 -- ---- accepted sheets
--- what an accepted sheet has come to
+-- what an accepted sheet has come to: without a total it has no bytes
 record ReadTo (s : List ℕ) (sh : Sheet) : Type 0 where
   sofar : SoFar sh
-  total : sh .total ≡ 0 → ⊥
-  bytes : s ≡ written sh
+  total : sh .total ≡ 0 → length s ≡ 0
+  bytes : s ≡ encode sh
 
 same-sheet : (sh sh′ : Sheet) → accepted sh ≡ accepted sh′ → sh ≡ sh′
 same-sheet sh sh′ e = cc
 
-ended-read : (s : List ℕ) (sh sh′ : Sheet) → SoFar sh → s ≡ written sh → ended s sh ≡ accepted sh′ → ReadTo s sh′
-ended-read s sh sh′ so b e = go (eqb (sh .total) 0) refl e
+ended-read : (s : List ℕ) (sh sh′ : Sheet) → SoFar sh → s ≡ encode sh → ended s sh ≡ accepted sh′ → ReadTo s sh′
+ended-read s sh sh′ so b e = go (eqb (sh .total) 0 && not (eqb (length s) 0)) refl e
   where
-    go : (x : Bool) → eqb (sh .total) 0 ≡ x → cond x (refused 9 (length s)) (accepted sh) ≡ accepted sh′ → ReadTo s sh′
-    go true ex z = absurd (never sh′ 9 (length s) (sym z))
-    go false ex z = subst (λ (y : Sheet). ReadTo s y) (same-sheet sh sh′ z) (record { sofar = so; total = eqb-false (sh .total) 0 ex; bytes = b })
+    bare : (eqb (sh .total) 0 && not (eqb (length s) 0)) ≡ false → sh .total ≡ 0 → length s ≡ 0
+    bare ex z = eqb-true (length s) 0 (not-false (eqb (length s) 0) (sym (ap (λ (x : Bool). x && not (eqb (length s) 0)) (eq-eqb (sh .total) 0 z)) ∙ ex))
 
-from-read : (n : ℕ) (s : List ℕ) (i : ℕ) (sh sh′ : Sheet) → length s ≤ i + n → take i s ≡ written sh → SoFar sh → readFrom n s i sh ≡ accepted sh′ → ReadTo s sh′
+    go : (x : Bool) → (eqb (sh .total) 0 && not (eqb (length s) 0)) ≡ x → cond x (refused 9 (length s)) (accepted sh) ≡ accepted sh′ → ReadTo s sh′
+    go true ex z = absurd (never sh′ 9 (length s) (sym z))
+    go false ex z = subst (λ (y : Sheet). ReadTo s y) (same-sheet sh sh′ z) (record { sofar = so; total = bare ex; bytes = b })
+
+from-read : (n : ℕ) (s : List ℕ) (i : ℕ) (sh sh′ : Sheet) → length s ≤ i + n → take i s ≡ encode sh → SoFar sh → readFrom n s i sh ≡ accepted sh′ → ReadTo s sh′
 unfolding readFrom
 from-read zero s i sh sh′ enough b so e = ended-read s sh sh′ so (sym (take-all i s (omega arith)) ∙ b) e
 from-read (suc n) s i sh sh′ enough b so e =
     go (leb (length s) i) (eqb (faultAt s i sh) 0) refl refl (λ i sh. from-read n s i sh sh′)
   where
     go : (x y : Bool) → leb (length s) i ≡ x → eqb (faultAt s i sh) 0 ≡ y
-        → ((i : ℕ) (sh : Sheet) → length s ≤ i + n → take i s ≡ written sh → SoFar sh → readFrom n s i sh ≡ accepted sh′ → ReadTo s sh′) → ReadTo s sh′
+        → ((i : ℕ) (sh : Sheet) → length s ≤ i + n → take i s ≡ encode sh → SoFar sh → readFrom n s i sh ≡ accepted sh′ → ReadTo s sh′) → ReadTo s sh′
     go true y ex ey next =
         let h = leb-true (length s) i ex in
         ended-read s sh sh′ so (sym (take-all i s h) ∙ b) (sym (from-end (suc n) s i sh h) ∙ e)
@@ -139,7 +142,7 @@ from-read (suc n) s i sh sh′ enough b so e =
         let good = eqb-true (faultAt s i sh) 0 ey in
         let none = fault-none s i sh h good in
         next (i + 4 + lengthAt s i) (Layout.add sh (kindOf (kindAt s i)) (payloadAt s i)) (omega arith)
-        (written-next s i sh (uncut s i (none .0)) (fine sh (kindAt s i) (payloadAt s i) (none .1)) b)
+        (encode-next s i sh (uncut s i (none .0)) (fine sh (kindAt s i) (payloadAt s i) (none .1)) b)
         (grown sh so (kindAt s i) (payloadAt s i) (none .1))
         (sym (from-good n s i sh h good) ∙ e)
     go false false ex ey next =
@@ -147,20 +150,26 @@ from-read (suc n) s i sh sh′ enough b so e =
 
 read-to : (s : List ℕ) (sh : Sheet) → reading s ≡ accepted sh → ReadTo s sh
 unfolding reading
-read-to s sh e = go (eqb (length s) 0 || ltb 4096 (length s)) e
+read-to s sh e = go (ltb 4096 (length s)) e
   where
     go : (b : Bool) → cond b (refused 1 0) (readFrom (length s) s 0 empty) ≡ accepted sh → ReadTo s sh
     go true z = absurd (never sh 1 0 (sym z))
-    go false z = from-read (length s) s 0 empty sh (omega arith) (sym written-none) empty-sofar z
+    go false z = from-read (length s) s 0 empty sh (omega arith) (sym encode-empty) empty-sofar z
+
+-- an accepted sheet has a total exactly where it has a sort
+accepted-ended : (s : List ℕ) (sh : Sheet) → ReadTo s sh → Ended sh
+accepted-ended s sh w = (
+  λ h. positive (sh .total) (λ z. encode-some sh h (sym (ap length (w .bytes)) ∙ w .total z)),
+  λ h. w .sofar .stage (let last = reached-5 sh (λ z. omega arith) in omega arith),
+)
 
 -- an accepted sheet is well formed
 pub accepted-well-formed : (s : List ℕ) (sh : Sheet) → reading s ≡ accepted sh → WellFormed sh
 accepted-well-formed s sh e =
     let w = read-to s sh e in
     let so = w .sofar in
-    let last = reached-5 sh (w .total) in
     record {
-      stage = (so .stage (omega arith), positive (sh .total) (w .total));
+      stage = accepted-ended s sh w;
       sorts = so .sorts;
       symbols = so .symbols;
       terms = so .terms;
@@ -182,7 +191,7 @@ accepted-well-formed s sh e =
 
 -- and its bytes are its encoding
 pub accepted-encode : (s : List ℕ) (sh : Sheet) → reading s ≡ accepted sh → s ≡ encode sh
-accepted-encode s sh e = let w = read-to s sh e in w .bytes ∙ written-all sh (positive (sh .total) (w .total))
+accepted-encode s sh e = read-to s sh e .bytes
 
 -- so a sheet is accepted exactly when it is the encoding of a well-formed one
 pub accepted-exactly : (s : List ℕ) (sh : Sheet) → (reading s ≡ accepted sh) ↔ (WellFormed sh × (s ≡ encode sh))

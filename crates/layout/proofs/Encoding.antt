@@ -1,4 +1,5 @@
--- The encoding of a well-formed sheet is read as that sheet: record after record, since the part that has been read agrees with the whole.
+-- The encoding of a well-formed sheet is read as that sheet: record after record, since the part that has been read agrees with the whole;
+-- and the one sheet without a total is the empty one, whose encoding has no bytes.
 use Prim.Native.Nat.{ℕ, zero, suc, _+_, _≤_, _<_}
 use native.Mathlib.Omega.{arith}
 use mathlib.Core.Path.{_≡_, refl, ap, sym, _∙_, subst}
@@ -19,11 +20,13 @@ use Rattle.layout.specs.Layout.{Kind, kindOf, field, name, expression, s
 use Rattle.records.specs.Record.{lengthAt, kindAt, payloadAt}
 use Rattle.layout.specs.Encode.{packet, boundBytes, symbolBytes, termBytes, literalBytes, encode}
 use Rattle.layout.specs.Parts.{later, faultAt}
-use Rattle.layout.proofs.Longest.{encode-length, encode-longest}
+use Rattle.layout.proofs.Longest.{encode-longest}
 use Rattle.records.proofs.Steps.{not-cut}
 use Rattle.layout.proofs.Causes.{placed-later, field-fine, name-fine, term-fine, literal-fine, total-fine}
 use Rattle.layout.proofs.AtMostTwo.{below-all}
 use Rattle.layout.proofs.Records.{cause-later, fault-whole, from-end, from-good}
+use Rattle.layout.proofs.Pack.{no-entries}
+use Rattle.layout.proofs.Written.{encode-empty, total-bytes}
 
 -- ---- one record among the bytes
 -- what reading from a position gives, however many records more are allowed for
@@ -159,13 +162,13 @@ module _ (sh : Sheet) where
   abbrev literalsRead : List Literal → Sheet
   literalsRead ls = record { bounds = sh .bounds; symbols = sh .symbols; terms = sh .terms; literals = ls; total = 0 }
 
-  module _ (w : WellFormed sh) where
+  module _ (w : WellFormed sh) (some : 1 ≤ sh .total) where
     -- how far they have come
     symbols-reached : (fs : List Symbol) → Within 1 2 (reached (symbolsRead fs))
     symbols-reached fs = either 1 2 (not (eqb (length fs) 0)) 2 _ (omega arith) begun
       where
         begun : Within 1 2 (cond (not (eqb (length (sh .bounds)) 0)) 1 0)
-        begun = rw (ne-eqb (length (sh .bounds)) 0 (λ e. let h = w .stage .0 in omega arith)) (omega arith)
+        begun = rw (ne-eqb (length (sh .bounds)) 0 (λ e. let h = w .stage .1 some in omega arith)) (omega arith)
 
     terms-reached : (ts : List Term) → Within 1 3 (reached (termsRead ts))
     terms-reached ts = either 1 3 (not (eqb (length ts) 0)) 3 _ (omega arith) (let h = symbols-reached (sh .symbols) in omega arith)
@@ -254,17 +257,18 @@ module _ (sh : Sheet) where
         let h = literals-reached (sh .literals) in
         no-cause (literalsRead (sh .literals)) 6 (sh .total ∷ [])
         (in-place (literalsRead (sh .literals)) total (omega arith) (omega arith) (omega arith)) refl
-        (total-fine (literalsRead (sh .literals)) (sh .total) refl (w .stage .1) (w .total))
+        (total-fine (literalsRead (sh .literals)) (sh .total) refl some (w .total))
 
     -- ---- the whole sheet
     encode-reads : Reads (encode sh) 0 empty (accepted sh)
     unfolding encode
     encode-reads =
-        reads-list (λ b. 1) (λ b. b .floor ∷ b .ceiling ∷ []) sortsRead (sh .bounds) bound-good (λ done b. refl) [] (sh .bounds) refl s [] (ofSymbols ++ (ofTerms ++ (ofLiterals ++ ofTotal))) (simp append-assoc) (accepted sh)
+        subst (λ (x : List ℕ). Reads x 0 empty (accepted sh)) (sym apart)
+        (reads-list (λ b. 1) (λ b. b .floor ∷ b .ceiling ∷ []) sortsRead (sh .bounds) bound-good (λ done b. refl) [] (sh .bounds) refl s [] (ofSymbols ++ (ofTerms ++ (ofLiterals ++ ofTotal))) (simp append-assoc) (accepted sh)
         (reads-list (λ f. 2) (λ f. f .result ∷ f .params) symbolsRead (sh .symbols) symbol-good (λ done f. refl) [] (sh .symbols) refl s ofSorts (ofTerms ++ (ofLiterals ++ ofTotal)) (simp append-assoc) (accepted sh)
         (reads-list (λ t. 3) (λ t. t .symbol ∷ t .args) termsRead (sh .terms) term-good (λ done t. refl) [] (sh .terms) refl s (ofSorts ++ ofSymbols) (ofLiterals ++ ofTotal) (simp append-assoc) (accepted sh)
         (reads-list (λ l. cond (l .equal) 4 5) (λ l. l .left ∷ l .right ∷ []) literalsRead (sh .literals) literal-good literal-grows [] (sh .literals) refl s (ofSorts ++ ofSymbols ++ ofTerms) ofTotal (simp append-assoc) (accepted sh)
-        (reads-record (ofSorts ++ ofSymbols ++ ofTerms ++ ofLiterals) 6 (sh .total ∷ []) [] (literalsRead (sh .literals)) total-good (accepted sh) last))))
+        (reads-record (ofSorts ++ ofSymbols ++ ofTerms ++ ofLiterals) 6 (sh .total ∷ []) [] (literalsRead (sh .literals)) total-good (accepted sh) last)))))
       where
         ofSorts : List ℕ
         ofSorts = flatMap boundBytes (sh .bounds)
@@ -284,13 +288,45 @@ module _ (sh : Sheet) where
         s : List ℕ
         s = ofSorts ++ ofSymbols ++ ofTerms ++ ofLiterals ++ ofTotal
 
+        apart : encode sh ≡ s
+        apart = rw (total-bytes (sh .total) some)
+
         last : Reads s (length s) sh (accepted sh)
-        last n h = from-end n s (length s) sh (omega arith) ∙ rw (ne-eqb (sh .total) 0 (λ e. let z = w .stage .1 in omega arith))
+        last n h = from-end n s (length s) sh (omega arith) ∙ rw (ne-eqb (sh .total) 0 (λ e. omega arith))
+
+-- a well-formed sheet without a total is the empty one: without a sort there is no symbol, so no term, so no literal
+pub without-total : (sh : Sheet) → WellFormed sh → sh .total ≡ 0 → sh ≡ empty
+without-total sh w e =
+    λ i. record { bounds = no-entries (sh .bounds) sorts i; symbols = no-entries (sh .symbols) symbols i; terms = no-entries (sh .terms) terms i; literals = no-entries (sh .literals) literals i; total = e i }
+  where
+    none : (n : ℕ) → (1 ≤ n → ⊥) → n ≡ 0
+    none zero h = refl
+    none (suc n) h = absurd (h (omega arith))
+
+    sorts : length (sh .bounds) ≡ 0
+    sorts = none (length (sh .bounds)) (λ h. let z = w .stage .0 h in omega arith)
+
+    symbols : length (sh .symbols) ≡ 0
+    symbols = none (length (sh .symbols)) (λ h. let z = w .result 0 h in omega (arith, sorts))
+
+    terms : length (sh .terms) ≡ 0
+    terms = none (length (sh .terms)) (λ h. let z = w .symbol 0 h in omega (arith, symbols))
+
+    literals : length (sh .literals) ≡ 0
+    literals = none (length (sh .literals)) (λ h. let z = w .left 0 h in omega (arith, terms))
+
+-- the sheet of zero bytes is accepted: it is the empty one
+pub nothing-read : reading [] ≡ accepted empty
+unfolding reading readFrom
+nothing-read = refl
 
 -- a well-formed sheet's encoding is read as that sheet
 pub encode-read : (sh : Sheet) → WellFormed sh → reading (encode sh) ≡ accepted sh
 unfolding reading
-encode-read sh w =
-    let short = encode-longest sh w in
-    let some = encode-length sh in
-    rw (ne-eqb (length (encode sh)) 0 (λ e. omega arith), le-ltb 4096 (length (encode sh)) (omega arith)) (encode-reads sh w (length (encode sh)) (omega arith))
+encode-read sh w = go (sh .total) refl
+  where
+    go : (n : ℕ) → sh .total ≡ n → reading (encode sh) ≡ accepted sh
+    go zero e = subst (λ (x : Sheet). reading (encode x) ≡ accepted x) (sym (without-total sh w e)) (ap reading encode-empty ∙ nothing-read)
+    go (suc n) e =
+        let short = encode-longest sh w in
+        rw (le-ltb 4096 (length (encode sh)) (omega arith)) (encode-reads sh w (omega arith) (length (encode sh)) (omega arith))

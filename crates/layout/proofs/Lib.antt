@@ -8,6 +8,6 @@ pub mod ByKind
 pub mod Growing
 pub mod Records
 pub mod Longest
-pub mod Encoding
 pub mod Written
+pub mod Encoding
 pub mod Answers

@@ -9,7 +9,7 @@ use Rattle.logic.specs.Sheet.{Sheet, termAt, sortAt, noBound, noSymbol, noTerm,
 use Rattle.prelude.specs.Tests.{Each}
 use Rattle.logic.specs.WellFormed.{WellFormed}
 use Rattle.logic.proofs.Meaning.{few-arguments}
-use Rattle.layout.specs.Encode.{boundBytes, symbolBytes, termBytes, literalBytes, encode}
+use Rattle.layout.specs.Encode.{boundBytes, symbolBytes, termBytes, literalBytes, totalBytes, encode}
 
 -- records of at most n bytes each; one of them of two bytes less
 module _ {A : Type 0} (n : ℕ) (f : A → List ℕ) (d : A) where
@@ -32,9 +32,9 @@ module _ {A : Type 0} (n : ℕ) (f : A → List ℕ) (d : A) where
       let y = h 0 (omega arith) in
       omega (arith, length-append (f a) (flatMap f l), mul-suc n (length l))
 
-pub encode-length : (sh : Sheet)
+encode-length : (sh : Sheet)
     → length (encode sh)
-    ≡ length (flatMap boundBytes (sh .bounds)) + length (flatMap symbolBytes (sh .symbols)) + length (flatMap termBytes (sh .terms)) + length (flatMap literalBytes (sh .literals)) + 5
+    ≡ length (flatMap boundBytes (sh .bounds)) + length (flatMap symbolBytes (sh .symbols)) + length (flatMap termBytes (sh .terms)) + length (flatMap literalBytes (sh .literals)) + length (totalBytes (sh .total))
 unfolding encode
 encode-length sh = simp length-append
 
@@ -63,12 +63,16 @@ module _ (sh : Sheet) (w : WellFormed sh) where
       literals : length (flatMap literalBytes (sh .literals)) ≤ 6 * length (sh .literals)
       literals = flat-most 6 literalBytes noLiteral (sh .literals) (λ k h. omega arith)
 
+      closing : (n : ℕ) → length (totalBytes n) ≤ 5
+      closing zero = omega arith
+      closing (suc n) = omega arith
+
       go : (n : ℕ) → length (sh .terms) ≡ n → length (encode sh) ≤ 2161
       go zero e =
           let a = flat-most 7 symbolBytes noSymbol (sh .symbols) short-symbols in
           let b = flat-most 7 termBytes noTerm (sh .terms) short-terms in
           let c = no-sides (length (sh .literals)) refl in
-          omega (arith, bounds, literals, encode-length sh)
+          omega (arith, bounds, literals, closing (sh .total), encode-length sh)
         where
           no-sides : (m : ℕ) → length (sh .literals) ≡ m → m ≡ 0
           no-sides zero q = refl
@@ -80,4 +84,4 @@ module _ (sh : Sheet) (w : WellFormed sh) where
           let q = ap length bare in
           let a = flat-less 7 symbolBytes noSymbol (sh .symbols) short-symbols (termAt sh 0 .symbol) (w .symbol 0 (omega arith)) (omega arith) in
           let b = flat-less 7 termBytes noTerm (sh .terms) short-terms 0 (omega arith) (omega arith) in
-          omega (arith, bounds, literals, encode-length sh)
+          omega (arith, bounds, literals, closing (sh .total), encode-length sh)

@@ -111,11 +111,7 @@ from-good n s i sh h good =
     let z = fault-none s i sh h good in
     rw (lt-leb (length s) i h, z .0, readFrom) (rw (eq-eqb (cause sh (kindAt s i) (payloadAt s i)) 0 (z .1), readFrom))
 
--- a sheet of no bytes, or of too many
-pub reading-empty : (s : List ℕ) → length s ≡ 0 → reading s ≡ refused 1 0
+-- a sheet of too many bytes
+pub reading-long : (s : List ℕ) → 4096 < length s → reading s ≡ refused 1 0
 unfolding reading
-reading-empty s e = rw (eq-eqb (length s) 0 e)
-
-pub reading-long : (s : List ℕ) → (length s ≡ 0 → ⊥) → 4096 < length s → reading s ≡ refused 1 0
-unfolding reading
-reading-long s e h = rw (ne-eqb (length s) 0 e, lt-ltb 4096 (length s) h)
+reading-long s h = rw (lt-ltb 4096 (length s) h)

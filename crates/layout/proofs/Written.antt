@@ -1,5 +1,4 @@
--- The bytes that have been read are those of the records that have been added to the sheet: so the bytes of an accepted sheet are its
--- encoding.
+-- The bytes that have been read are the encoding of the sheet so far: a good record puts its bytes behind them.
 use Prim.Native.Nat.{ℕ, zero, suc, _+_, _≤_}
 use native.Mathlib.Omega.{arith}
 use mathlib.Core.Path.{_≡_, refl, ap, sym, _∙_, subst}
@@ -7,43 +6,34 @@ use mathlib.Core.List.{List, [], _∷_, _++_, flatMap, append-nil, append-assoc}
 use lib.ListN.{length, take, drop, length-drop}
 use lib.Seq.{take-add, getD-drop}
 use borrow.Author.Tests.{le-ltb}
-use Rattle.logic.specs.Sheet.{Sheet}
+use Rattle.logic.specs.Sheet.{Sheet, Bound}
 use Rattle.prelude.specs.Lists.{at}
 use Rattle.layout.specs.Layout.{kindOf, total, shortest, longest, add, empty}
 use Rattle.records.specs.Record.{lengthAt, kindAt, payloadAt}
-use Rattle.layout.specs.Encode.{packet, boundBytes, symbolBytes, termBytes, literalBytes, encode}
+use Rattle.layout.specs.Encode.{packet, boundBytes, symbolBytes, termBytes, literalBytes, totalBytes, encode}
 use Rattle.layout.proofs.Causes.{ranked, Clear, no-total, no-literals, no-terms, no-symbols}
 use Rattle.layout.proofs.Growing.{Fine, total-least}
 use Rattle.layout.proofs.Pack.{no-entries}
 use Rattle.layout.proofs.Payloads.{length-part}
 use Rattle.layout.proofs.Records.{one-to-three}
 
--- the total's record, once it has been read
-closing : ℕ → List ℕ
-closing zero = []
-closing (suc n) = packet 6 (suc n ∷ [])
+-- before the first record
+pub encode-empty : encode empty ≡ []
+unfolding encode flatMap
+encode-empty = refl
 
-closed : (n : ℕ) → 1 ≤ n → closing n ≡ packet 6 (n ∷ [])
-unfolding closing
-closed zero h = absurd (omega arith)
-closed (suc n) h = refl
+-- once a sort has been read, there are bytes
+pub encode-some : (sh : Sheet) → 1 ≤ length (sh .bounds) → length (encode sh) ≡ 0 → ⊥
+unfolding encode flatMap
+encode-some sh h e = go (sh .bounds) h e
+  where
+    go : (l : List Bound) → 1 ≤ length l → length (flatMap boundBytes l ++ flatMap symbolBytes (sh .symbols) ++ flatMap termBytes (sh .terms) ++ flatMap literalBytes (sh .literals) ++ totalBytes (sh .total)) ≡ 0 → ⊥
+    go [] h e = omega arith
+    go (b ∷ l) h e = omega arith
 
--- the bytes of the part of a sheet that has been read
-pub written : Sheet → List ℕ
-written sh =
-    flatMap boundBytes (sh .bounds)
-    ++ flatMap symbolBytes (sh .symbols)
-    ++ flatMap termBytes (sh .terms)
-    ++ flatMap literalBytes (sh .literals)
-    ++ closing (sh .total)
-
-pub written-none : written empty ≡ []
-unfolding written closing flatMap
-written-none = refl
-
-pub written-all : (sh : Sheet) → 1 ≤ sh .total → written sh ≡ encode sh
-unfolding written encode
-written-all sh h = rw (closed (sh .total) h)
+pub total-bytes : (n : ℕ) → 1 ≤ n → totalBytes n ≡ packet 6 (n ∷ [])
+total-bytes zero h = absurd (omega arith)
+total-bytes (suc n) h = refl
 
 flatMap-more : {A : Type 0} (f : A → List ℕ) (l : List A) (a : A) → flatMap f (l ++ (a ∷ [])) ≡ flatMap f l ++ f a
 unfolding flatMap
@@ -65,40 +55,40 @@ spelt-front [] h = absurd (omega arith)
 spelt-front (x ∷ p) h = refl
 
 -- a good record puts its bytes behind those of the sheet so far, since nothing of a later kind has been read
-written-more : (sh : Sheet) (k : ℕ) (p : List ℕ) → Fine sh k p → written (add sh (kindOf k) p) ≡ written sh ++ packet k p
-unfolding written closing flatMap
-written-more sh zero p f = absurd (f .placed .known refl)
-written-more sh (suc zero) p f =
+encode-more : (sh : Sheet) (k : ℕ) (p : List ℕ) → Fine sh k p → encode (add sh (kindOf k) p) ≡ encode sh ++ packet k p
+unfolding encode flatMap
+encode-more sh zero p f = absurd (f .placed .known refl)
+encode-more sh (suc zero) p f =
     let order = f .placed .order in
     let least = f .least in
     let most = f .most in
     rw (← spelt-two p (omega arith), no-entries (sh .symbols) (no-symbols sh (omega arith)), no-entries (sh .terms) (no-terms sh (omega arith)), no-entries (sh .literals) (no-literals sh (omega arith)), no-total sh (f .placed .open′))
     (simp (append-nil, flatMap-more))
-written-more sh (suc (suc zero)) p f =
+encode-more sh (suc (suc zero)) p f =
     let order = f .placed .order in
     let least = f .least in
     rw (← spelt-front p least, no-entries (sh .terms) (no-terms sh (omega arith)), no-entries (sh .literals) (no-literals sh (omega arith)), no-total sh (f .placed .open′))
     (simp (append-nil, flatMap-more, append-assoc))
-written-more sh (suc (suc (suc zero))) p f =
+encode-more sh (suc (suc (suc zero))) p f =
     let order = f .placed .order in
     let least = f .least in
     rw (← spelt-front p least, no-entries (sh .literals) (no-literals sh (omega arith)), no-total sh (f .placed .open′))
     (simp (append-nil, flatMap-more, append-assoc))
-written-more sh (suc (suc (suc (suc zero)))) p f =
+encode-more sh (suc (suc (suc (suc zero)))) p f =
     let least = f .least in
     let most = f .most in
     rw (← spelt-two p (omega arith), no-total sh (f .placed .open′)) (simp (append-nil, flatMap-more, append-assoc))
-written-more sh (suc (suc (suc (suc (suc zero))))) p f =
+encode-more sh (suc (suc (suc (suc (suc zero))))) p f =
     let least = f .least in
     let most = f .most in
     rw (← spelt-two p (omega arith), no-total sh (f .placed .open′)) (simp (append-nil, flatMap-more, append-assoc))
-written-more sh (suc (suc (suc (suc (suc (suc zero)))))) p f =
+encode-more sh (suc (suc (suc (suc (suc (suc zero)))))) p f =
     let least = f .least in
     let most = f .most in
     let one = spelt-one p (omega arith) in
     let some = total-least sh (at p 0) (subst (Clear sh total) (sym one) (f .clear)) in
-    rw (← one, no-total sh (f .placed .open′), closed (at p 0) some) (simp append-nil)
-written-more sh (suc (suc (suc (suc (suc (suc (suc n))))))) p f = absurd (f .placed .known refl)
+    rw (← one, no-total sh (f .placed .open′), total-bytes (at p 0) some) (simp append-nil)
+encode-more sh (suc (suc (suc (suc (suc (suc (suc n))))))) p f = absurd (f .placed .known refl)
 
 -- the bytes of a record at a position, whose kind and length are small
 record-at : (s : List ℕ) (i : ℕ) → i + 4 + lengthAt s i ≤ length s → lengthAt s i ≤ 3 → kindAt s i ≤ 6
@@ -131,12 +121,12 @@ record-at s i fit few known =
         rw (x0, x1, x2, x3)
 
 -- one good record more has been read
-pub written-next : (s : List ℕ) (i : ℕ) (sh : Sheet) → i + 4 + lengthAt s i ≤ length s → Fine sh (kindAt s i) (payloadAt s i) → take i s ≡ written sh
-    → take (i + 4 + lengthAt s i) s ≡ written (add sh (kindOf (kindAt s i)) (payloadAt s i))
-written-next s i sh fit f e =
+pub encode-next : (s : List ℕ) (i : ℕ) (sh : Sheet) → i + 4 + lengthAt s i ≤ length s → Fine sh (kindAt s i) (payloadAt s i) → take i s ≡ encode sh
+    → take (i + 4 + lengthAt s i) s ≡ encode (add sh (kindOf (kindAt s i)) (payloadAt s i))
+encode-next s i sh fit f e =
     let k : ℕ = kindAt s i in
     let p : List ℕ = payloadAt s i in
     let known = ranked k (f .placed .known) in
     let few = one-to-three k (length p) (known .0) (known .1) (rw (le-ltb (length p) (shortest k) (f .least), le-ltb (longest k) (length p) (f .most))) in
     let n = length-part s (i + 4) (lengthAt s i) fit in
-    record-at s i fit (omega arith) (known .1) ∙ ap (λ (l : List ℕ). l ++ packet k p) e ∙ sym (written-more sh k p f)
+    record-at s i fit (omega arith) (known .1) ∙ ap (λ (l : List ℕ). l ++ packet k p) e ∙ sym (encode-more sh k p f)

@@ -1,6 +1,6 @@
 -- The interface: the layout the other way round: the bytes that a sheet is written as (docs/FORMAT.md, "The sheet"). A well-formed sheet
 -- has these bytes and no others (`accepted-exactly`, proofs/Answers.antt).
-use Prim.Native.Nat.{ℕ}
+use Prim.Native.Nat.{ℕ, zero, suc}
 use mathlib.Core.List.{List, [], _∷_, _++_, flatMap}
 use mathlib.Core.Bool.{cond}
 use lib.ListN.{length}
@@ -23,6 +23,11 @@ termBytes t = packet 3 (t .symbol ∷ t .args)
 abbrev pub literalBytes : Literal → List ℕ
 literalBytes l = packet (cond (l .equal) 4 5) (l .left ∷ l .right ∷ [])
 
+-- the record of the total; there is none where there is no total
+abbrev pub totalBytes : ℕ → List ℕ
+totalBytes zero = []
+totalBytes (suc n) = packet 6 (suc n ∷ [])
+
 -- the records in the layout's order, those of one list after the other, the total last
 unfoldable pub encode : Sheet → List ℕ
 encode sh =
@@ -30,4 +35,4 @@ encode sh =
     ++ flatMap symbolBytes (sh .symbols)
     ++ flatMap termBytes (sh .terms)
     ++ flatMap literalBytes (sh .literals)
-    ++ packet 6 (sh .total ∷ [])
+    ++ totalBytes (sh .total)

@@ -173,9 +173,9 @@ pub data Reading : Type 0 where
   accepted : Sheet → Reading
   refused : ℕ → ℕ → Reading
 
--- Cause 9: the sheet ends without a total.
+-- Cause 9: the sheet ends without a total. It passes over a sheet of zero bytes.
 abbrev pub ended : List ℕ → Sheet → Reading
-ended s sh = cond (eqb (sh .total) 0) (refused 9 (length s)) (accepted sh)
+ended s sh = cond (eqb (sh .total) 0 && not (eqb (length s) 0)) (refused 9 (length s)) (accepted sh)
 
 -- The records from a position on, after the sheet so far: the first faulty record decides, and within it the lowest number.
 -- The first argument bounds the number of records that are still to come; `length s` is always enough, since each has 4 bytes
@@ -196,6 +196,7 @@ readFrom (suc n) s i sh =
           ]
     ]
 
+-- the sheet of zero bytes, and the sheet before the first record
 abbrev pub empty : Sheet
 empty = record { bounds = []; symbols = []; terms = []; literals = []; total = 0 }
 
@@ -203,6 +204,6 @@ empty = record { bounds = []; symbols = []; terms = []; literals = []; total = 0
 abbrev pub mostBytes : ℕ
 mostBytes = 4096
 
--- Cause 1: the sheet has zero bytes, or more than the most.
+-- Cause 1: the sheet has more bytes than the most.
 unfoldable pub reading : List ℕ → Reading
-reading s = cond (eqb (length s) 0 || ltb mostBytes (length s)) (refused 1 0) (readFrom (length s) s 0 empty)
+reading s = cond (ltb mostBytes (length s)) (refused 1 0) (readFrom (length s) s 0 empty)

@@ -1,6 +1,7 @@
 -- The interface: what good records make of a sheet, and what holds of every accepted one. Later layers cite these fields and not the text
 -- of the layout.
 use Prim.Native.Nat.{ℕ, _≤_, _<_}
+use mathlib.Core.Logic.{_↔_}
 use mathlib.Core.Path.{_≡_}
 use mathlib.Core.List.{map}
 use lib.ListN.{length}
@@ -34,9 +35,9 @@ pub record Formed (Stage : Sheet → Type 0) (sh : Sheet) : Type 0 where
   pub right : (k : ℕ) → k < length (sh .literals) → literalAt sh k .right < length (sh .terms)
   pub sides : (k : ℕ) → k < length (sh .literals) → sortAt sh (literalAt sh k .left) ≡ sortAt sh (literalAt sh k .right)
 
--- at the end of a sheet a sort is there, and a total
+-- at the end of a sheet a total is there exactly where a sort is; total 0 says that there is none
 abbrev pub Ended : Sheet → Type 0
-Ended sh = (1 ≤ length (sh .bounds)) × (1 ≤ sh .total)
+Ended sh = (1 ≤ length (sh .bounds)) ↔ (1 ≤ sh .total)
 
 -- what holds of every accepted sheet
 abbrev pub WellFormed : Sheet → Type 0

@@ -1,5 +1,5 @@
--- None of the wrong programs of docs/CONTRACTS.md, "Contracts owed", c, meets its contract. A worked sheet refutes most of them: what the contract
--- says of it is not what the wrong program does. An 11 before looking and an invented sum are refuted at every call, by demand 3.
+-- None of the wrong programs of specs/WrongPrograms.antt meets its contract. A worked sheet refutes most of them: what the contract says of it is not
+-- what the wrong program does. An 11 before looking and an invented sum are refuted at every call, by demand 3.
 use Prim.Native.Nat.{ℕ, _≤_, _<_}
 use native.Mathlib.Decide.{decLt}
 use native.Mathlib.Omega.{arith}
@@ -30,10 +30,11 @@ use Rattle.worked.specs.Worked.{Row, row1, row2, row5, row13, Shows}
 use Rattle.finder.specs.declared.Finding.{Finding}
 use Rattle.finder.specs.declared.Finding.the-variants.{Found, Refused}
 use Rattle.worked.proofs.Worked.{sheetOf, worked}
+use Rattle.worked.proofs.EmptySheet.{empty-sheet}
 use Rattle.finder.proofs.Outcomes.{outcome-refused, outcome-short}
 use Rattle.finder.proofs.Buffers.{exit}
 use Rattle.finder.proofs.Delivery.{accepted-promised}
-use Rattle.refuted.specs.WrongPrograms.{FindProgram, MeetsFind, LetThrough, ElevenForAll, NeverLooks, ElevenBeforeLooking, SameTables, NoCodeWritten, NoTableWritten, OtherSizesZero, OtherCodesZero, InventedSum, ReadProgram, MeetsRead, RefusesEverySheet, JudgeProgram, MeetsJudge, FixedJudgement, Refuted}
+use Rattle.refuted.specs.WrongPrograms.{FindProgram, MeetsFind, LetThrough, ElevenForAll, NeverLooks, ElevenBeforeLooking, SameTables, NoCodeWritten, NoTableWritten, OtherSizesZero, OtherCodesZero, InventedSum, ReadProgram, MeetsRead, RefusesEverySheet, RefusesNoBytes, JudgeProgram, MeetsJudge, FixedJudgement, PassesTablesForNoBytes, Refuted}
 
 -- ---- the worked sheets that refute
 one-field : Shows row1
@@ -192,6 +193,13 @@ not-refuses-every-sheet p meets wrong =
     let z : _≡_ {A = ℕ} 0 1 = cc in
     omega arith
 
+not-refuses-no-bytes : (p : ReadProgram) → MeetsRead p → RefusesNoBytes p → ⊥
+unfolding verdict
+not-refuses-no-bytes p meets wrong =
+    let e : verdicts.Accepted ≡ verdicts.Refused (wrong .0) (wrong .1) = sym (ap verdict (empty-sheet .reads)) ∙ sym (meets []) ∙ wrong .2 in
+    let z : _≡_ {A = ℕ} 0 1 = cc in
+    omega arith
+
 -- ---- judge
 -- tables of one field that has one code, and two: the first fit, the second are out of bounds
 row1-fits : judgement (row1 .sheet) (1 ∷ []) ≡ Fits
@@ -210,6 +218,9 @@ not-fixed-judgement p r meets wrong =
     let z : _≡_ {A = ℕ} 0 1 = cc in
     omega arith
 
+not-passes-tables-for-no-bytes : (p : JudgeProgram) → MeetsJudge p → PassesTablesForNoBytes p → ⊥
+not-passes-tables-for-no-bytes p meets wrong = wrong .1 (empty-sheet .fits (wrong .0) .0 (sym (meets [] (wrong .0)) ∙ wrong .2))
+
 -- THEOREM: the wrong programs are refuted
 pub refuted : Refuted
 refuted =
@@ -224,6 +235,8 @@ refuted =
       other-codes-zero = not-other-codes-zero;
       invented-sum = not-invented-sum;
       refuses-every-sheet = not-refuses-every-sheet;
+      refuses-no-bytes = not-refuses-no-bytes;
       fixed-judgement = not-fixed-judgement;
+      passes-tables-for-no-bytes = not-passes-tables-for-no-bytes;
       fixed-forcing = λ p r meets wrong. no-fixed-reply r (λ s sh a b q t. sym (wrong s a b sh q t) ∙ meets s a b);
     }

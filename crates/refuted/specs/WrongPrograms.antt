@@ -1,10 +1,10 @@
--- The interface: the wrong programs of docs/CONTRACTS.md, "Contracts owed", c, in that order. A program is what it gives back, and leaves
--- in the buffers, for every call; to meet a contract is to do so at every call. `refuted` of proofs/Refuted.antt: none of these meets the
--- contract of its question.
+-- The interface: the wrong programs of docs/CONTRACTS.md, "Contracts owed", c, in that order, and those about a sheet of zero bytes. A program is
+-- what it gives back, and leaves in the buffers, for every call; to meet a contract is to do so at every call. `refuted` of proofs/Refuted.antt: none
+-- of these meets the contract of its question.
 use Prim.Native.Nat.{ℕ, _≤_, _<_}
 use mathlib.Core.Path.{_≡_}
 use mathlib.Core.Bool.{true}
-use mathlib.Core.List.{List}
+use mathlib.Core.List.{List, []}
 use lib.ListN.{length}
 use Rattle.logic.specs.Sheet.{Sheet, sortAt}
 use Rattle.prelude.specs.Lists.{at, sumTo}
@@ -14,6 +14,7 @@ use Rattle.sheet.specs.declared.Verdict.{Verdict}
 use Rattle.sheet.specs.declared.Verdict.the-variants as verdicts
 use Rattle.tables.specs.Layout.{extent, WellLaid}
 use Rattle.tables.specs.declared.Judgement.{Judgement}
+use Rattle.tables.specs.declared.Judgement.the-variants.{Fits}
 use Rattle.judge.specs.Judge.{judgement}
 use Rattle.forced.specs.Forcing.{comparable, forcing}
 use Rattle.forced.specs.declared.Forcing.{Forcing}
@@ -97,6 +98,10 @@ MeetsRead p = (s : List ℕ) → p s ≡ verdict (reading s)
 abbrev pub RefusesEverySheet : ReadProgram → Type 0
 RefusesEverySheet p = (s : List ℕ) → (n : ℕ) × (i : ℕ) × (p s ≡ verdicts.Refused n i)
 
+-- refuses a sheet of zero bytes, with 1, with 9 or with whatever number and place
+abbrev pub RefusesNoBytes : ReadProgram → Type 0
+RefusesNoBytes p = (n : ℕ) × (i : ℕ) × (p [] ≡ verdicts.Refused n i)
+
 -- ---- JUDGE (demand 2)
 abbrev pub JudgeProgram : Type 0
 JudgeProgram = List ℕ → List ℕ → Judgement
@@ -107,6 +112,10 @@ MeetsJudge p = (s t : List ℕ) → p s t ≡ judgement s t
 -- one fixed reply, even if only to calls that are not turned down: accepted sheets with well-laid tables
 abbrev pub FixedJudgement : JudgeProgram → Judgement → Type 0
 FixedJudgement p r = (s t : List ℕ) (sh : Sheet) → reading s ≡ accepted sh → WellLaid sh t → p s t ≡ r
+
+-- passes some tables other than those of zero bytes for a sheet of zero bytes
+abbrev pub PassesTablesForNoBytes : JudgeProgram → Type 0
+PassesTablesForNoBytes p = (t : List ℕ) × (t ≡ [] → ⊥) × (p [] t ≡ Fits)
 
 -- ---- FORCED (demand 2)
 abbrev pub ForcedProgram : Type 0
@@ -131,5 +140,7 @@ pub record Refuted : Type 0 where
   pub other-codes-zero : (p : FindProgram) → MeetsFind p → OtherCodesZero p → ⊥
   pub invented-sum : (p : FindProgram) → MeetsFind p → InventedSum p → ⊥
   pub refuses-every-sheet : (p : ReadProgram) → MeetsRead p → RefusesEverySheet p → ⊥
+  pub refuses-no-bytes : (p : ReadProgram) → MeetsRead p → RefusesNoBytes p → ⊥
   pub fixed-judgement : (p : JudgeProgram) (r : Judgement) → MeetsJudge p → FixedJudgement p r → ⊥
+  pub passes-tables-for-no-bytes : (p : JudgeProgram) → MeetsJudge p → PassesTablesForNoBytes p → ⊥
   pub fixed-forcing : (p : ForcedProgram) (r : Forcing) → MeetsForced p → FixedForcing p r → ⊥

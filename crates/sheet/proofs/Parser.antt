@@ -2,9 +2,10 @@
 use Prim.Native.Nat.{ℕ, zero, suc, _+_, _≤_, _<_}
 use native.Mathlib.Omega.{arith}
 use mathlib.Core.Path.{_≡_, refl, ap, sym, _∙_, subst}
-use mathlib.Core.Bool.{Bool, false, cond}
+use mathlib.Core.Bool.{Bool, true, false, not, _&&_, cond}
 use mathlib.Core.List.{List}
 use lib.ListN.{length, take, drop}
+use lib.Dec.{eqb}
 use borrow.Author.Tests.{le-ltb, eq-eqb, ne-eqb}
 use Rattle.logic.specs.Sheet.{Sheet}
 use Rattle.records.specs.Record.{cut, kindAt, lengthAt, payloadAt}
@@ -42,14 +43,14 @@ pub record Going (s : List ℕ) (i : ℕ) (p : Parsed) : Type 0 where
   pub enough : length s ≤ i + most
   pub rest : readFrom most s i (known .sheet) ≡ reading s
 
-pub going-start : (s : List ℕ) (p : Parsed) → p ≡ packed empty → (length s ≡ 0 → ⊥) → length s ≤ 4096 → Going s 0 p
+pub going-start : (s : List ℕ) (p : Parsed) → p ≡ packed empty → length s ≤ 4096 → Going s 0 p
 unfolding reading
-going-start s p e a b =
+going-start s p e h =
     record {
       known = record { sheet = empty; same = e; sofar = empty-sofar };
       most = length s;
       enough = omega arith;
-      rest = rw (ne-eqb (length s) 0 a, le-ltb 4096 (length s) b);
+      rest = rw (le-ltb 4096 (length s) h);
     }
 
 module _ (s : List ℕ) (i : ℕ) (p : Parsed) (g : Going s i p) where
@@ -98,15 +99,24 @@ module _ (s : List ℕ) (i : ℕ) (p : Parsed) (g : Going s i p) where
 
 -- at the end
 module _ (s : List ℕ) (i : ℕ) (p : Parsed) (g : Going s i p) (h : length s ≤ i) where
-  pub going-untotalled : p .total ≡ 0 → refused 9 (length s) ≡ reading s
-  going-untotalled e =
-      sym (ap (λ (b : Bool). cond b (refused 9 (length s)) (accepted (g .known .sheet))) (eq-eqb (g .known .sheet .total) 0 (sym (contents p (g .known .sheet) (g .known .same) .total) ∙ e)))
+  total-read : p .total ≡ g .known .sheet .total
+  total-read = contents p (g .known .sheet) (g .known .same) .total
+
+  ending : (b : Bool) → (eqb (p .total) 0 && not (eqb (length s) 0)) ≡ b → cond b (refused 9 (length s)) (accepted (g .known .sheet)) ≡ reading s
+  ending b e =
+      sym (ap (λ (c : Bool). cond c (refused 9 (length s)) (accepted (g .known .sheet))) (ap (λ (n : ℕ). eqb n 0 && not (eqb (length s) 0)) (sym total-read) ∙ e))
       ∙ going-end s i p g h
 
-  pub going-accepted : (p .total ≡ 0 → ⊥) → record { number = 0; place = 0; sheet = p } ≡ parsing (reading s)
+  pub going-untotalled : p .total ≡ 0 → not (eqb (length s) 0) ≡ true → refused 9 (length s) ≡ reading s
+  going-untotalled e some = ending true (rw (eq-eqb (p .total) 0 e, some))
+
+  going-whole : (eqb (p .total) 0 && not (eqb (length s) 0)) ≡ false → record { number = 0; place = 0; sheet = p } ≡ parsing (reading s)
   unfolding parsing
-  going-accepted e =
-      ap (λ (x : Parsed). record { number = 0; place = 0; sheet = x }) (g .known .same)
-      ∙ ap parsing
-      (sym (ap (λ (b : Bool). cond b (refused 9 (length s)) (accepted (g .known .sheet))) (ne-eqb (g .known .sheet .total) 0 (λ z. e (contents p (g .known .sheet) (g .known .same) .total ∙ z))))
-      ∙ going-end s i p g h)
+  going-whole e = ap (λ (x : Parsed). record { number = 0; place = 0; sheet = x }) (g .known .same) ∙ ap parsing (ending false e)
+
+  pub going-accepted : (p .total ≡ 0 → ⊥) → record { number = 0; place = 0; sheet = p } ≡ parsing (reading s)
+  going-accepted e = going-whole (rw (ne-eqb (p .total) 0 e))
+
+  -- a sheet of zero bytes
+  pub going-nothing : p .total ≡ 0 → not (eqb (length s) 0) ≡ false → record { number = 0; place = 0; sheet = p } ≡ parsing (reading s)
+  going-nothing e none = going-whole (rw (eq-eqb (p .total) 0 e, none))

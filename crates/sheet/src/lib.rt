@@ -62,9 +62,6 @@ pub fn parse(s: &[u8]) -> Parsing
     ensures { λ r. ⌜ r ≡ parsing (reading (now (s .entry))) ⌝ }
 {
     let n = s.len();
-    if n == 0 {
-        return refusal(1, 0);
-    }
     if MOST_BYTES < n {
         return refusal(1, 0);
     }
@@ -79,7 +76,7 @@ pub fn parse(s: &[u8]) -> Parsing
         let grown = r.sheet;
         p = grown;
     }
-    if p.total == 0 {
+    if p.total == 0 && n != 0 {
         return refusal(9, n);
     }
     Parsing {

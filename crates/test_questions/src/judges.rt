@@ -114,8 +114,8 @@ fn wanted(p: [u8; PLAN], s: Shape, tables: &[u8; ROOM]) -> usize {
     }
 }
 
-// Damaged tables are refused: by a size of 0 (way 0) or of 17 (1), a byte too many (2), no byte at all (3), a last cell that is no code
-// (4), or a byte too few (5, and 4 where there is no cell).
+// Damaged tables are refused: by a size of 0 (way 0) or of 17 (1), a byte too many (2, and the one way where there is no sort), no byte at
+// all (3), a last cell that is no code (4), or a byte too few (5, and 4 where there is no cell).
 fn damaged(
     p: [u8; PLAN],
     s: Shape,
@@ -132,6 +132,9 @@ fn damaged(
 }
 
 fn possible(way: usize, sorts: usize, length: usize) -> usize {
+    if sorts == 0 {
+        return 2;
+    }
     if way == 4 && length <= sorts { 5 } else { way }
 }
 

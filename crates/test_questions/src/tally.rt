@@ -8,52 +8,54 @@ use test_sheets::plan::TERMS;
 use test_sheets::plan::count;
 use test_sheets::plan::record_at;
 
-pub const COUNTS: usize = 22;
+pub const COUNTS: usize = 23;
 
 // The counts, in the order of the report.
-pub const DRAWN: usize = 0;
+pub const SHEETS: usize = 0;
 
-pub const NO_SYMBOLS: usize = 1;
+pub const NO_SORTS: usize = 1;
 
-pub const NO_TERMS: usize = 2;
+pub const NO_SYMBOLS: usize = 2;
 
-pub const NO_LITERALS: usize = 3;
+pub const NO_TERMS: usize = 3;
 
-pub const CROSSED: usize = 4;
+pub const NO_LITERALS: usize = 4;
 
-pub const LISTED: usize = 5;
+pub const CROSSED: usize = 5;
 
-pub const CANDIDATES: usize = 6;
+pub const LISTED: usize = 6;
 
-pub const FOUND: usize = 7;
+pub const CANDIDATES: usize = 7;
 
-pub const NO_ANSWER: usize = 8;
+pub const FOUND: usize = 8;
 
-pub const SHORT: usize = 9;
+pub const NO_ANSWER: usize = 9;
 
-pub const FITS: usize = 10;
+pub const SHORT: usize = 10;
 
-pub const OUT_OF_BOUNDS: usize = 11;
+pub const FITS: usize = 11;
 
-pub const BROKEN: usize = 12;
+pub const OUT_OF_BOUNDS: usize = 12;
 
-pub const DAMAGED: usize = 13;
+pub const BROKEN: usize = 13;
 
-pub const STRETCH: usize = 14;
+pub const DAMAGED: usize = 14;
 
-pub const EMPTY: usize = 15;
+pub const STRETCH: usize = 15;
 
-pub const SETTLED: usize = 16;
+pub const EMPTY: usize = 16;
 
-pub const STRUCTURES: usize = 17;
+pub const SETTLED: usize = 17;
 
-pub const FORCED: usize = 18;
+pub const STRUCTURES: usize = 18;
 
-pub const FREE: usize = 19;
+pub const FORCED: usize = 19;
 
-pub const NO_PAIR: usize = 20;
+pub const FREE: usize = 20;
 
-pub const DIFFERENCES: usize = 21;
+pub const NO_PAIR: usize = 21;
+
+pub const DIFFERENCES: usize = 22;
 
 pub fn add(counts: &mut [u64; COUNTS], at: usize, n: usize) {
     let k = at % COUNTS;
@@ -61,8 +63,9 @@ pub fn add(counts: &mut [u64; COUNTS], at: usize, n: usize) {
 }
 
 // Counts the sheet and what is special about it.
-pub fn drawn(p: [u8; PLAN], counts: &mut [u64; COUNTS]) {
-    add(counts, DRAWN, 1);
+pub fn tried(p: [u8; PLAN], counts: &mut [u64; COUNTS]) {
+    add(counts, SHEETS, 1);
+    add(counts, NO_SORTS, none(p, SORTS));
     add(counts, NO_SYMBOLS, none(p, SYMBOLS));
     add(counts, NO_TERMS, none(p, TERMS));
     add(counts, NO_LITERALS, none(p, LITERALS));
@@ -107,7 +110,7 @@ pub fn report(counts: &[u64; COUNTS]) {
 
 fn report_sheets(counts: &[u64; COUNTS], n: usize) -> usize {
     fill(
-        b"sheets drawn #\n- without names #\n- without expressions #\n- without statements #\n- with a floor above its ceiling #\n",
+        b"sheets #\n- without fields #\n- without names #\n- without expressions #\n- without statements #\n- with a floor above its ceiling #\n",
         counts,
         n,
     )

@@ -1,5 +1,6 @@
-// Random small sheets from a fixed seed. Find, judge, table of a name and forced are asked about each, and what they give is compared
-// with a listing of all interpretations (crate test_listing). The numbers printed are fixed by the seed; a difference is printed with its sheet.
+// The sheet of zero bytes, and random small sheets from a fixed seed. Find, judge, table of a name and forced are asked about each, and what they
+// give is compared with a listing of all interpretations (crate test_listing). The numbers printed are fixed by the seed; a difference is printed with its
+// sheet.
 mod finds; // find is asked
 
 use test_listing::answer;
@@ -13,24 +14,24 @@ use test_sheets::draw;
 use test_sheets::encode;
 use test_sheets::plan::PLAN;
 
-const SHEETS: usize = 4000;
+const DRAWN: usize = 4000;
 
 fn main() {
     let mut state: u64 = 1;
     let mut counts = [0u64; tally::COUNTS];
+    one_sheet([0u8; PLAN], &mut counts);
     let mut k: usize = 0;
-    while k < SHEETS {
-        one_sheet(&mut state, &mut counts);
+    while k < DRAWN {
+        one_sheet(draw::draw(&mut state), &mut counts);
         k += 1;
     }
     tally::report(&counts);
 }
 
-fn one_sheet(state: &mut u64, counts: &mut [u64; tally::COUNTS]) {
-    let p = draw::draw(state);
+fn one_sheet(p: [u8; PLAN], counts: &mut [u64; tally::COUNTS]) {
     let mut bytes = [0u8; encode::SHEET];
     let n = encode::encode(p, &mut bytes);
-    tally::drawn(p, counts);
+    tally::tried(p, counts);
     compare(p, &bytes, n, counts);
 }
 

@@ -1,1 +1,3 @@
+-- Both are the interface.
 pub mod Worked
+pub mod EmptySheet

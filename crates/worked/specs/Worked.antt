@@ -1,4 +1,4 @@
--- Interface. The fourteen worked sheets (docs/FORMAT.md, "Worked sheets") as one table, and the printed example. A row has the sheet's bytes, the
+-- Interface. The worked sheets (docs/FORMAT.md, "Worked sheets") as one table, and the printed example. A row has the sheet's bytes, the
 -- lengths of the code and table buffers that it asks for, and what "find" is to give back and to write; a refused call writes nothing.
 use Prim.Native.Nat.{ℕ, _≤_, _<_}
 use mathlib.Core.Path.{_≡_}
@@ -154,6 +154,10 @@ row13 =
 abbrev pub row14 : Row
 row14 = record { sheet = field 2 2 ++ event ++ total 16; codeBytes = 0; tableBytes = 3; result = Found 2; codes = []; tables = (2 ∷ []) ++ (0 ∷ 0 ∷ []) }
 
+-- a sheet of zero bytes: no field has a size, and no buffer is asked for
+abbrev pub row15 : Row
+row15 = record { sheet = []; codeBytes = 0; tableBytes = 0; result = Found 0; codes = []; tables = [] }
+
 -- the printed example, case 9 with total 3, byte by byte
 abbrev pub printed : Row
 printed =
@@ -183,7 +187,7 @@ printed =
 
 abbrev pub rows : List Row
 rows =
-    row1 ∷ row2 ∷ row3 ∷ row4 ∷ row5 ∷ row6 ∷ row7 ∷ row8 ∷ row9 ∷ row10 ∷ row11 ∷ row12 ∷ row13 ∷ row14 ∷ printed ∷ []
+    row1 ∷ row2 ∷ row3 ∷ row4 ∷ row5 ∷ row6 ∷ row7 ∷ row8 ∷ row9 ∷ row10 ∷ row11 ∷ row12 ∷ row13 ∷ row14 ∷ row15 ∷ printed ∷ []
 
 -- What a row says: for all buffers that are long enough for the sheet, the result, and every byte of both at exit.
 pub record Shown (r : Row) (cs ts : List ℕ) : Type 0 where

@@ -1,0 +1,103 @@
+-- The sheet of zero bytes: what find does is its row of the worked sheets, and what judge says is a row of the theorem about every accepted sheet.
+use Prim.Native.Nat.{ℕ}
+use native.Mathlib.Omega.{arith}
+use mathlib.Core.Path.{_≡_, refl, ap, _∙_}
+use mathlib.Core.Bool.{Bool, true, false, cond}
+use mathlib.Core.Logic.{_↔_}
+use mathlib.Core.List.{List, [], _∷_}
+use mathlib.Core.Option.{some}
+use borrow.Author.Tests.{le-ltb}
+use Rattle.logic.specs.Structure.{Structure, codes}
+use Rattle.layout.specs.Layout.{empty}
+use Rattle.layout.proofs.Encoding.{nothing-read}
+use Rattle.tables.specs.Layout.{WellLaid}
+use Rattle.tables.specs.Tests.{wellLaid}
+use Rattle.tables.specs.declared.Judgement.the-variants as judgements
+use Rattle.judge.specs.Judge.{Says, judgement, stretchOf, tableOf, nowhere}
+use Rattle.judge.proofs.Judged.{judgement-says}
+use Rattle.forced.specs.Forcing.{forcing}
+use Rattle.forced.specs.declared.Forcing.the-variants as forcings
+use Rattle.answer.specs.Answer.{answer, solves}
+use Rattle.answer.proofs.Demand.{accepted-demand}
+use Rattle.worked.specs.Worked.{row15, Shown, Shows}
+use Rattle.worked.specs.EmptySheet.{OneCandidate, nothing, EmptySheet}
+use Rattle.worked.proofs.Worked.{worked}
+
+-- LAW: the answer of the sheet of zero bytes is found, without sizes and without codes
+pub empty-answer : answer empty ≡ some nothing
+unfolding answer solves
+empty-answer = refl
+
+one-candidate : (M : Structure) → OneCandidate M
+unfolding codes
+one-candidate M =
+    record {
+      candidate =
+          record {
+            interprets = record { nonempty = λ s h. absurd (omega arith); complete = λ f h cs i. absurd (omega arith) };
+            bounded = record { floor = λ s h. absurd (omega arith); ceiling = λ s h. absurd (omega arith); total = omega arith };
+          };
+      satisfies = λ k h. absurd (omega arith);
+      sum = refl;
+      sizes = refl;
+      codes = refl;
+      tables = refl;
+    }
+
+-- find, by the row
+row : Shows row15
+row = worked .1 .1 .1 .1 .1 .1 .1 .1 .1 .1 .1 .1 .1 .1 .0
+
+shown : (cs ts : List ℕ) → Shown row15 cs ts
+shown cs ts = row .shown cs ts (omega arith) (omega arith)
+
+-- judge, by the theorem
+well-laid-none : (t : List ℕ) → WellLaid empty t → t ≡ []
+well-laid-none [] w = refl
+well-laid-none (x ∷ t) w = let e = w .extent in absurd (omega arith)
+
+none-fits : (t : List ℕ) → t ≡ [] → judgement [] t ≡ judgements.Fits
+none-fits t e = ap (judgement []) e ∙ judgement-says [] [] empty nothing-read judgements.Fits .1 says
+  where
+    says : Says empty [] judgements.Fits
+    says = (
+      record { sizes = omega arith; size = λ s h. absurd (omega arith); extent = refl; entry = λ f h k l. absurd (omega arith) },
+      one-candidate _ .candidate,
+      one-candidate _ .satisfies,
+    )
+
+fits-exactly : (t : List ℕ) → (judgement [] t ≡ judgements.Fits) ↔ (t ≡ [])
+fits-exactly t = (λ e. well-laid-none t (judgement-says [] t empty nothing-read judgements.Fits .0 e .0), none-fits t)
+
+others-refused : (t : List ℕ) → (t ≡ [] → ⊥) → judgement [] t ≡ judgements.Refused 12 0
+others-refused t longer = judgement-says [] t empty nothing-read (judgements.Refused 12 0) .1 (refl, refl, λ w. longer (well-laid-none t w))
+
+-- nothing has a number below 0
+no-expression : (a b : ℕ) → forcing [] a b ≡ forcings.Refused 13 0
+unfolding forcing
+no-expression a b = rw (nothing-read, le-ltb a 0 (omega arith))
+
+no-name : (t : List ℕ) (f : ℕ) → tableOf [] t f ≡ nowhere
+unfolding tableOf stretchOf
+no-name t f = rw nothing-read (rw (le-ltb f 0 (omega arith)) (go (wellLaid empty t)))
+  where
+    go : (b : Bool) → cond b nowhere nowhere ≡ nowhere
+    go true = refl
+    go false = refl
+
+-- THEOREM: the sheet of zero bytes
+pub empty-sheet : EmptySheet
+empty-sheet =
+    record {
+      reads = nothing-read;
+      answers = empty-answer;
+      demand = accepted-demand [] empty nothing-read;
+      candidates = one-candidate;
+      found = λ cs ts. shown cs ts .result;
+      codes = λ cs ts. shown cs ts .codes;
+      tables = λ cs ts. shown cs ts .tables;
+      fits = fits-exactly;
+      others = others-refused;
+      forced = no-expression;
+      table = no-name;
+    }

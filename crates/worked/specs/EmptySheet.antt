@@ -1,0 +1,51 @@
+-- Interface. The sheet of zero bytes, a block without an agreement yet, question by question. Every definition and theorem covers it as it covers any other
+-- sheet: it has no field, so it has one candidate, without sizes and without tables, and that is its answer.
+use Prim.Native.Nat.{ℕ}
+use mathlib.Core.Path.{_≡_}
+use mathlib.Core.Logic.{_↔_}
+use mathlib.Core.List.{List, []}
+use mathlib.Core.Option.{some}
+use lib.ListN.{length}
+use Rattle.logic.specs.Structure.{Structure, Candidate, Satisfies, codes}
+use Rattle.logic.specs.Order.{sizesOf, sumOf}
+use Rattle.layout.specs.Layout.{accepted, reading, empty}
+use Rattle.tables.specs.Layout.{encoded}
+use Rattle.tables.specs.declared.Judgement.the-variants as judgements
+use Rattle.judge.specs.Judge.{judgement, tableOf, nowhere}
+use Rattle.forced.specs.Forcing.{forcing}
+use Rattle.forced.specs.declared.Forcing.the-variants as forcings
+use Rattle.answer.specs.Answer.{Entry, answer}
+use Rattle.answer.specs.Demand.{Demand}
+use Rattle.finder.specs.Find.{finding, codesAfter, tablesAfter}
+use Rattle.finder.specs.declared.Finding.the-variants.{Found}
+
+-- Every structure is a candidate and satisfies every statement. In what the sheet speaks of they are all one: no sizes, which sum to 0, no codes and no
+-- tables.
+pub record OneCandidate (M : Structure) : Type 0 where
+  pub candidate : Candidate M empty
+  pub satisfies : Satisfies M empty
+  pub sum : sumOf M empty ≡ 0
+  pub sizes : sizesOf M empty ≡ []
+  pub codes : codes M empty ≡ []
+  pub tables : encoded M empty ≡ []
+
+-- no sizes and no codes
+abbrev pub nothing : Entry
+nothing = record { sizes = []; codes = [] }
+
+pub record EmptySheet : Type 0 where
+  -- it is accepted; it has an answer, of which demand 3 holds, and one candidate
+  pub reads : reading [] ≡ accepted empty
+  pub answers : answer empty ≡ some nothing
+  pub demand : Demand empty
+  pub candidates : (M : Structure) → OneCandidate M
+  -- find gives sum 0 and leaves both buffers as they were, whatever they are
+  pub found : (cs ts : List ℕ) → finding [] (length cs) (length ts) ≡ Found 0
+  pub codes : (cs ts : List ℕ) → codesAfter [] cs ts ≡ cs
+  pub tables : (cs ts : List ℕ) → tablesAfter [] cs ts ≡ ts
+  -- judge passes exactly the tables of zero bytes and refuses all others with 12
+  pub fits : (t : List ℕ) → (judgement [] t ≡ judgements.Fits) ↔ (t ≡ [])
+  pub others : (t : List ℕ) → (t ≡ [] → ⊥) → judgement [] t ≡ judgements.Refused 12 0
+  -- no expression and no name is there
+  pub forced : (a b : ℕ) → forcing [] a b ≡ forcings.Refused 13 0
+  pub table : (t : List ℕ) (f : ℕ) → tableOf [] t f ≡ nowhere
