@@ -20,7 +20,7 @@ use Rattle.layout.specs.Layout.{Kind, kindOf, field, name, expression, s
 use Rattle.records.specs.Record.{lengthAt, kindAt, payloadAt}
 use Rattle.layout.specs.Encode.{packet, boundBytes, symbolBytes, termBytes, literalBytes, encode}
 use Rattle.layout.specs.Parts.{later, faultAt}
-use Rattle.layout.proofs.Longest.{encode-longest}
+use Rattle.layout.proofs.Longest.{no-sides, encode-longest}
 use Rattle.records.proofs.Steps.{not-cut}
 use Rattle.layout.proofs.Causes.{placed-later, field-fine, name-fine, term-fine, literal-fine, total-fine}
 use Rattle.layout.proofs.AtMostTwo.{below-all}
@@ -297,23 +297,23 @@ module _ (sh : Sheet) where
 -- a well-formed sheet without a total is the empty one: without a sort there is no symbol, so no term, so no literal
 pub without-total : (sh : Sheet) → WellFormed sh → sh .total ≡ 0 → sh ≡ empty
 without-total sh w e =
-    λ i. record { bounds = no-entries (sh .bounds) sorts i; symbols = no-entries (sh .symbols) symbols i; terms = no-entries (sh .terms) terms i; literals = no-entries (sh .literals) literals i; total = e i }
+    λ i.
+    record {
+      bounds = no-entries (sh .bounds) sorts i;
+      symbols = no-entries (sh .symbols) symbols i;
+      terms = no-entries (sh .terms) terms i;
+      literals = no-entries (sh .literals) (no-sides sh w terms) i;
+      total = e i;
+    }
   where
-    none : (n : ℕ) → (1 ≤ n → ⊥) → n ≡ 0
-    none zero h = refl
-    none (suc n) h = absurd (h (omega arith))
-
     sorts : length (sh .bounds) ≡ 0
-    sorts = none (length (sh .bounds)) (λ h. let z = w .stage .0 h in omega arith)
+    sorts = let none : 1 ≤ length (sh .bounds) → ⊥ = λ h. let z = w .stage .0 h in omega arith in omega arith
 
     symbols : length (sh .symbols) ≡ 0
-    symbols = none (length (sh .symbols)) (λ h. let z = w .result 0 h in omega (arith, sorts))
+    symbols = let none : 1 ≤ length (sh .symbols) → ⊥ = λ h. let z = w .result 0 h in omega (arith, sorts) in omega arith
 
     terms : length (sh .terms) ≡ 0
-    terms = none (length (sh .terms)) (λ h. let z = w .symbol 0 h in omega (arith, symbols))
-
-    literals : length (sh .literals) ≡ 0
-    literals = none (length (sh .literals)) (λ h. let z = w .left 0 h in omega (arith, terms))
+    terms = let none : 1 ≤ length (sh .terms) → ⊥ = λ h. let z = w .symbol 0 h in omega (arith, symbols) in omega arith
 
 -- the sheet of zero bytes is accepted: it is the empty one
 pub nothing-read : reading [] ≡ accepted empty

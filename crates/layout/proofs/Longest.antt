@@ -47,6 +47,10 @@ module _ (sh : Sheet) (w : WellFormed sh) where
       go [] e = refl
       go (x ∷ l) e = let z = e .0 in absurd (omega arith)
 
+  -- without a term there is no literal
+  pub no-sides : length (sh .terms) ≡ 0 → length (sh .literals) ≡ 0
+  no-sides e = let none : 1 ≤ length (sh .literals) → ⊥ = λ h. let z = w .left 0 h in omega arith in omega arith
+
   -- neither the first term nor its symbol takes an argument, so two bytes are missing twice
   pub encode-longest : length (encode sh) ≤ 2161
   encode-longest = go (length (sh .terms)) refl
@@ -71,12 +75,8 @@ module _ (sh : Sheet) (w : WellFormed sh) where
       go zero e =
           let a = flat-most 7 symbolBytes noSymbol (sh .symbols) short-symbols in
           let b = flat-most 7 termBytes noTerm (sh .terms) short-terms in
-          let c = no-sides (length (sh .literals)) refl in
+          let c = no-sides e in
           omega (arith, bounds, literals, closing (sh .total), encode-length sh)
-        where
-          no-sides : (m : ℕ) → length (sh .literals) ≡ m → m ≡ 0
-          no-sides zero q = refl
-          no-sides (suc m) q = let z = w .left 0 (omega arith) in absurd (omega arith)
       go (suc n) e =
           let bare = first-bare (omega arith) in
           let params = sym (w .argSorts 0 (omega arith)) ∙ ap (map (sortAt sh)) bare in

@@ -20,11 +20,11 @@ use Rattle.forced.specs.declared.Forcing.the-variants as forcings
 use Rattle.answer.specs.Answer.{answer, solves}
 use Rattle.answer.proofs.Demand.{accepted-demand}
 use Rattle.worked.specs.Worked.{row15, Shown, Shows}
-use Rattle.worked.specs.EmptySheet.{OneCandidate, nothing, EmptySheet}
+use Rattle.worked.specs.EmptySheet.{OneCandidate, emptyEntry, EmptySheet}
 use Rattle.worked.proofs.Worked.{worked}
 
 -- LAW: the answer of the sheet of zero bytes is found, without sizes and without codes
-pub empty-answer : answer empty ≡ some nothing
+pub empty-answer : answer empty ≡ some emptyEntry
 unfolding answer solves
 empty-answer = refl
 

@@ -30,13 +30,13 @@ pub record OneCandidate (M : Structure) : Type 0 where
   pub tables : encoded M empty ≡ []
 
 -- no sizes and no codes
-abbrev pub nothing : Entry
-nothing = record { sizes = []; codes = [] }
+abbrev pub emptyEntry : Entry
+emptyEntry = record { sizes = []; codes = [] }
 
 pub record EmptySheet : Type 0 where
   -- it is accepted; it has an answer, of which demand 3 holds, and one candidate
   pub reads : reading [] ≡ accepted empty
-  pub answers : answer empty ≡ some nothing
+  pub answers : answer empty ≡ some emptyEntry
   pub demand : Demand empty
   pub candidates : (M : Structure) → OneCandidate M
   -- find gives sum 0 and leaves both buffers as they were, whatever they are

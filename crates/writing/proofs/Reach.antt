@@ -3,7 +3,7 @@
 use Prim.Native.Nat.{ℕ, zero, suc, _+_, _≤_, _<_}
 use native.Mathlib.Omega.{arith}
 use mathlib.Core.Path.{_≡_, refl, ap, ap₂, sym, _∙_}
-use mathlib.Core.Bool.{Bool, true, false, _&&_, cond}
+use mathlib.Core.Bool.{Bool, true, false, _&&_, and-true, cond}
 use mathlib.Core.List.{List, [], _∷_, map}
 use mathlib.Core.Option.{Option, some, Option·getD}
 use lib.ListN.{length, drop, length-map, drop-of-length-le}
@@ -19,10 +19,6 @@ use Rattle.layout.specs.Packed.{first, second}
 use Rattle.layout.specs.Views.{Views}
 use Rattle.answer.specs.Answer.{cellsFrom, cellAt}
 use Rattle.writing.specs.Parts.{rowOf, columnOf, reaches, held}
-
-and-true : (b : Bool) → (b && true) ≡ b
-and-true true = refl
-and-true false = refl
 
 -- arguments have these codes, as a list and by place
 by-place :

@@ -91,13 +91,12 @@ returns-3 c =
 
 returns-4 : tie.Need-returns-4 Inv-loop μ-loop
 returns-4 c =
+    let s = c .before .before .before .before .before .before .before .args .s .now in
+    let l = c .before .before .before .loop in
+    let done = c .before .before .loop-test .left in
     ⊎-elim
-    (λ w.
-    going-nothing (c .before .before .before .before .before .before .before .args .s .now) (c .before .before .before .loop .at)
-    (c .before .before .before .loop .p) (c .before .before .before .loop .inv) (c .before .before .loop-test .left) (w .0 .taken) (w .1 .left))
-    (λ w.
-    going-accepted (c .before .before .before .before .before .before .before .args .s .now) (c .before .before .before .loop .at)
-    (c .before .before .before .loop .p) (c .before .before .before .loop .inv) (c .before .before .loop-test .left) (w .left))
+    (λ w. going-nothing s (l .at) (l .p) (l .inv) done (w .0 .taken) (w .1 .left))
+    (λ w. going-accepted s (l .at) (l .p) (l .inv) done (w .left))
     (c .if3 .came)
 
 pub parse-spec : {M : Type 1} → statement M
