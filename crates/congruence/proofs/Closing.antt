@@ -1,6 +1,6 @@
--- The labels that the definition of the closure computes name the groups, so that `together` is `Forced`. Each statement and each round is
--- a step that makes groups one soundly; a round joins all terms that were alike before it, so that labels which it leaves as they are
--- are closed; and every other round leaves fewer groups.
+-- The labels that the definition of the closure computes name the groups, so that `together` is `Forced` and the number of a group is its
+-- lowest-numbered term. Each statement and each round is a step that makes groups one soundly; a round joins all terms that were alike before
+-- it, so that labels which it leaves as they are are closed; and every other round leaves fewer groups.
 use Prim.Native.Nat.{ℕ, zero, suc, _≤_, _<_, _+_}
 use native.Mathlib.Numerals.{add-one}
 use native.Mathlib.Omega.{arith}
@@ -24,13 +24,13 @@ use Rattle.layout.specs.Packed.{packed, view, bit}
 use Rattle.layout.specs.Views.{Views}
 use Rattle.layout.proofs.AtMostTwo.{each-weaken, pair-map}
 use Rattle.layout.proofs.View.{packed-views}
-use Rattle.congruence.specs.Closure.{join, joinSides, alike, joinAlike, forEach, stated, round, rounds, labels, together}
-use Rattle.congruence.specs.Forced.{Forced}
-use Rattle.congruence.specs.Groups.{Lowest, Groups, alone}
+use Rattle.congruence.specs.Closure.{join, joinSides, alike, joinAlike, forEach, stated, round, rounds, labels, groupOf, together}
+use Rattle.congruence.specs.Forced.{Forced, Representative}
+use Rattle.congruence.specs.Groups.{Lowest, Groups}
 use Rattle.congruence.specs.Parts.{Joined, named, key, Closed, Coarsening}
 use Rattle.congruence.specs.declared.Key.{Key}
 use Rattle.congruence.proofs.Labels.{joined-map, joined-together, joined-step, step-none, step-more}
-use Rattle.congruence.proofs.Sweeps.{named-there, StatedTo, stated-none, stated-same, stated-differ, stated-kept, labels-group, groups-agree, groups-unique}
+use Rattle.congruence.proofs.Sweeps.{named-there, StatedTo, stated-none, stated-same, stated-differ, stated-kept, labels-group, groups-unique}
 use Rattle.congruence.proofs.Structures.{views-closable, same-arity, rule-sound, forced-labels, labels-forced}
 
 join-joined : (l : List ℕ) (i j : ℕ) → Joined (at l) i j (at (join i j l))
@@ -315,7 +315,7 @@ module _ (sh : Sheet) (w : WellFormed sh) (P : Problem) (v : Views sh P) where
   rounds-enough zero = rounds-none
   rounds-enough (suc n) = rounds-more n (rounds-enough n)
 
-  closure-groups : Groups P alone (at (labels sh))
+  closure-groups : Groups P (at (labels sh))
   unfolding labels
   closure-groups =
       let n = length (sh .terms) in
@@ -326,20 +326,31 @@ module _ (sh : Sheet) (w : WellFormed sh) (P : Problem) (v : Views sh P) where
       let fits = views-closable sh w P v in
       let first = stated-all in
       let rest = rounds-enough n (stated sh) (length-stated sh) (first .step .lowest low) (most-groups n (at (stated sh))) in
-      groups-agree P start alone (at (labels sh)) (λ k b. at-run 0 n k (omega arith) ∙ omega arith)
-      (labels-group P fits start (at (labels sh)) low
+      labels-group P fits start (at (labels sh)) low (λ k b. at-run 0 n k (omega arith) ∙ omega arith)
       (step-more P start (at (stated sh)) (at (labels sh)) (first .step) (rest .0))
       (stated-kept P fits (at (stated sh)) (at (labels sh)) (λ k b e. first .stated k (omega arith) e) (rest .0))
-      (rest .1))
+      (rest .1)
+
+-- LAW: a group has one number
+pub representative-unique : (sh : Sheet) (e k m : ℕ) → Representative sh e k → Representative sh e m → k ≡ m
+representative-unique sh e k m r t =
+    elim (decLt k m) [
+      | yes h ↦ absurd (t .lowest k h (r .forced))
+      | no h ↦
+          elim (decLt m k) [
+            | yes g ↦ absurd (r .lowest m g (t .forced))
+            | no g ↦ omega arith
+          ]
+    ]
 
 module _ (sh : Sheet) (w : WellFormed sh) where
   -- the labels name the groups, and no others do
-  pub labels-groups : Groups (view (packed sh)) alone (at (labels sh))
+  pub labels-groups : Groups (view (packed sh)) (at (labels sh))
   labels-groups = closure-groups sh w (view (packed sh)) (packed-views sh)
 
-  pub labels-unique : (l : ℕ → ℕ) → Groups (view (packed sh)) alone l → (i : ℕ) → i < length (sh .terms) → l i ≡ at (labels sh) i
+  pub labels-unique : (l : ℕ → ℕ) → Groups (view (packed sh)) l → (i : ℕ) → i < length (sh .terms) → l i ≡ groupOf sh i
   labels-unique l g i b =
-      groups-unique (view (packed sh)) alone l (at (labels sh)) (views-closable sh w (view (packed sh)) (packed-views sh) .terms) g labels-groups i
+      groups-unique (view (packed sh)) l (at (labels sh)) (views-closable sh w (view (packed sh)) (packed-views sh) .terms) g labels-groups i
       (omega (arith, packed-views sh .terms))
 
   -- two terms lie in one group exactly when every structure that satisfies the same statements gives them one code
@@ -349,12 +360,22 @@ module _ (sh : Sheet) (w : WellFormed sh) where
     λ f. eq-eqb _ _ (forced-labels sh w (view (packed sh)) (packed-views sh) (at (labels sh)) labels-groups a b x y f),
   )
 
-  -- a label is a term of the group, and no term of the group has a lower number
-  pub label-member : (i : ℕ) → i < length (sh .terms) → (at (labels sh) i < length (sh .terms)) × (together sh (at (labels sh) i) i ≡ true)
-  label-member i b =
-      let low = labels-groups .lowest in
+  -- THEOREM: the number of a term's group is the group's lowest-numbered term
+  pub group-representative : (e : ℕ) → e < length (sh .terms) → Representative sh e (groupOf sh e)
+  group-representative e b =
       let small = w .terms in
-      (omega (arith, low .below i (omega arith)), eq-eqb _ _ (low .self i (omega arith)))
+      let low = labels-groups .lowest in
+      let under = low .below e (omega arith) in
+      let there : groupOf sh e < length (sh .terms) = omega arith in
+      record {
+        there = there;
+        forced = together-exactly (groupOf sh e) e there b .0 (eq-eqb _ _ (low .self e (omega arith)));
+        lowest = λ j less forced. omega (arith, low .below j (omega arith), eqb-true (groupOf sh j) (groupOf sh e) (together-exactly j e (omega arith) b .1 forced));
+      }
 
-  pub label-lowest : (i j : ℕ) → i < length (sh .terms) → j < length (sh .terms) → together sh i j ≡ true → at (labels sh) i ≤ j
-  label-lowest i j bi bj e = omega (arith, w .terms, eqb-true (at (labels sh) i) (at (labels sh) j) e, labels-groups .lowest .below j (omega (arith, w .terms)))
+  -- and it is the only number with that property
+  pub group-exactly : (e k : ℕ) → e < length (sh .terms) → (groupOf sh e ≡ k) ↔ Representative sh e k
+  group-exactly e k b = (
+    λ q. subst (Representative sh e) q (group-representative e b),
+    λ r. representative-unique sh e (groupOf sh e) k (group-representative e b) r,
+  )

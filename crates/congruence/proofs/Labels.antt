@@ -10,8 +10,8 @@ use borrow.Author.Tests.{eq-eqb, ne-eqb}
 use Rattle.logic.specs.Problem.{Problem}
 use Rattle.prelude.specs.Lists.{at}
 use Rattle.congruence.specs.Closure.{relabel}
-use Rattle.congruence.specs.Groups.{Models, Keeps, Lowest}
-use Rattle.congruence.specs.Parts.{Joined, Coarsening}
+use Rattle.congruence.specs.Groups.{Models, Lowest}
+use Rattle.congruence.specs.Parts.{Joined, Keeps, Coarsening}
 
 pub relabel-hit : (lo hi x : ℕ) → x ≡ hi → relabel lo hi x ≡ lo
 relabel-hit lo hi x h = rw (eq-eqb x hi h)

@@ -3,3 +3,4 @@ pub mod Labels
 pub mod Sweeps
 pub mod Structures
 pub mod Closing
+pub mod NoPart

@@ -1,5 +1,5 @@
 -- Labels and structures: the groups of a sheet's terms are what every structure forces. One way the codes of a structure are a model; the
--- other way the labels are the codes of a structure, all of whose sizes are 128.
+-- other way the labels are the codes of a structure, all of whose sizes are 128. And terms of two sorts are never forced together.
 use Prim.Native.Nat.{ℕ, zero, suc, _≤_, _<_}
 use native.Mathlib.Omega.{arith}
 use native.Mathlib.Decide.{decLt, ℕ-discrete}
@@ -17,7 +17,7 @@ use Rattle.logic.proofs.Meaning.{code-congruent, codes-own, few-arguments}
 use Rattle.layout.specs.Packed.{first, second, bit}
 use Rattle.layout.specs.Views.{Views}
 use Rattle.layout.proofs.AtMostTwo.{each-weaken, pair-map}
-use Rattle.congruence.specs.Groups.{Models, Entails, Groups, Closable, alone}
+use Rattle.congruence.specs.Groups.{Models, Entails, Groups, Closable}
 use Rattle.congruence.specs.Forced.{Forced}
 
 -- arguments with equal labels have equal codes where codes keep to the labels; a missing one is missing on both sides
@@ -100,21 +100,21 @@ module _ (sh : Sheet) (w : WellFormed sh) (P : Problem) (v : Views sh P) where
       (ap c (v .arg0 i bi) ∙ first-equal (length (sh .terms)) l c kept (termAt sh i .args) (termAt sh j .args) xs ys e ∙ ap c (sym (v .arg0 j bj)))
       (ap c (v .arg1 i bi) ∙ second-equal (length (sh .terms)) l c kept (termAt sh i .args) (termAt sh j .args) xs ys e ∙ ap c (sym (v .arg1 j bj)))
 
-  pub entails-forced : (i j : ℕ) → Entails P alone i j → Forced sh i j
-  entails-forced i j e M interprets sat = e (code M sh) (codes-model M sat) (λ k b. refl)
+  pub entails-forced : (i j : ℕ) → Entails P i j → Forced sh i j
+  entails-forced i j e M interprets sat = e (code M sh) (codes-model M sat)
 
-  module _ (l : ℕ → ℕ) (g : Groups P alone l) where
+  module _ (l : ℕ → ℕ) (g : Groups P l) where
     keeps-labels : (c : ℕ → ℕ) → Models P c → (a : ℕ) → a < length (sh .terms) → c (l a) ≡ c a
     keeps-labels c models a b =
         let n = v .terms in
         let small : l a < P .terms = omega (arith, w .terms, g .lowest .below a (omega (arith, w .terms))) in
-        g .sound (l a) a small (omega arith) (g .lowest .self a (omega (arith, w .terms))) c models (λ k b. refl)
+        g .sound (l a) a small (omega arith) (g .lowest .self a (omega (arith, w .terms))) c models
 
     -- terms of one symbol with equal argument labels have one label
     labels-closed : (i j : ℕ) → i < length (sh .terms) → j < length (sh .terms) → termAt sh i .symbol ≡ termAt sh j .symbol → map l (termAt sh i .args) ≡ map l (termAt sh j .args) → l i ≡ l j
     labels-closed i j bi bj f e =
         let n = v .terms in
-        g .complete i j (omega arith) (omega arith) (λ c models keeps. rule-sound l c models (keeps-labels c models) i j bi bj f e)
+        g .complete i j (omega arith) (omega arith) (λ c models. rule-sound l c models (keeps-labels c models) i j bi bj f e)
 
     -- a term below n with this symbol and these labels as arguments, or the proof that there is none
     abbrev Reached : ℕ → List ℕ → ℕ → Type 0
@@ -183,7 +183,7 @@ module _ (sh : Sheet) (w : WellFormed sh) (P : Problem) (v : Views sh P) where
         let left = w .left k b in
         let right = w .right k b in
         let labels : l (literalAt sh k .left) ≡ l (literalAt sh k .right) =
-        g .complete _ _ (omega arith) (omega arith) (λ c models keeps.
+        g .complete _ _ (omega arith) (omega arith) (λ c models.
         ap c (sym (v .left k b)) ∙ models .same k (omega arith) (v .equal k b ∙ ap bit e) ∙ ap c (v .right k b)) in
         true-agree _ _ _ e (labelled-codes _ left ∙ labels ∙ sym (labelled-codes _ right))
 
@@ -193,3 +193,23 @@ module _ (sh : Sheet) (w : WellFormed sh) (P : Problem) (v : Views sh P) where
 
     pub labels-forced : (i j : ℕ) → i < length (sh .terms) → j < length (sh .terms) → l i ≡ l j → Forced sh i j
     labels-forced i j bi bj e = let n = v .terms in entails-forced i j (g .sound i j (omega arith) (omega arith) e)
+
+-- LAW: what is forced together is of one sort: where every cell holds the number of its symbol's sort, each term has the number of its sort as its
+-- code, and every same statement holds.
+module _ (sh : Sheet) (w : WellFormed sh) where
+  by-sort : Structure
+  by-sort = record { size = λ s. suc s; table = λ f cs. symbolAt sh f .result }
+
+  by-sort-interprets : Interprets by-sort sh
+  unfolding by-sort
+  by-sort-interprets = record { nonempty = λ s b. omega arith; complete = λ f b cs fits. omega arith }
+
+  by-sort-codes : (i : ℕ) → i < length (sh .terms) → code by-sort sh i ≡ sortAt sh i
+  unfolding by-sort
+  by-sort-codes = codes-own by-sort sh w (sortAt sh) (λ i h. refl)
+
+  by-sort-same : SatisfiesSame by-sort sh
+  by-sort-same k b e = true-agree _ _ _ e (by-sort-codes _ (w .left k b) ∙ w .sides k b ∙ sym (by-sort-codes _ (w .right k b)))
+
+  pub forced-one-sort : (i j : ℕ) → i < length (sh .terms) → j < length (sh .terms) → Forced sh i j → sortAt sh i ≡ sortAt sh j
+  forced-one-sort i j bi bj forced = sym (by-sort-codes i bi) ∙ forced by-sort by-sort-interprets by-sort-same ∙ by-sort-codes j bj

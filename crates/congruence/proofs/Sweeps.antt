@@ -5,8 +5,8 @@ use native.Mathlib.Decide.{decLt}
 use mathlib.Core.Path.{_≡_, ap, sym, _∙_}
 use borrow.Author.Tests.{lt-ltb, le-ltb}
 use Rattle.logic.specs.Problem.{Problem}
-use Rattle.congruence.specs.Groups.{Models, Keeps, Entails, Lowest, Groups, Closable, alone}
-use Rattle.congruence.specs.Parts.{Joined, named, key, Twin, Closed, Coarsening, Stated, Swept}
+use Rattle.congruence.specs.Groups.{Models, Entails, Lowest, Groups, Closable}
+use Rattle.congruence.specs.Parts.{Joined, named, key, Twin, Keeps, Closed, Coarsening, Stated, Swept}
 use Rattle.congruence.specs.declared.Key.{Key}
 use Rattle.congruence.proofs.Labels.{joined-together, joined-step, step-none, step-more}
 
@@ -104,7 +104,13 @@ module _ (P : Problem) (n : P .terms ≤ 128) (l : ℕ → ℕ) where
       }
 
   pub swept-all : (m : ℕ → ℕ) → SweptTo P l (P .terms) m → Swept P l m
-  swept-all m so = record { step = so .step; closed = λ same. labelled-closed P l (so .labelled same) }
+  swept-all m so =
+      record {
+        step = so .step;
+        closed = λ same i j bi bj e.
+            let keys = key-agree P l m (λ k b. same k (omega arith)) in
+            same i (omega arith) ∙ labelled-closed P l (so .labelled same) i j bi bj (sym (keys i) ∙ e ∙ keys j) ∙ sym (same j (omega arith));
+      }
 
 -- the same statements below k have been seen to
 pub record StatedTo (P : Problem) (l : ℕ → ℕ) (k : ℕ) (m : ℕ → ℕ) : Type 0 where
@@ -151,8 +157,9 @@ stated-kept P fits l m stated step k b e =
     let n = fits .terms in
     step .coarser (P .left k) (P .right k) (omega (arith, fits .left k b)) (omega (arith, fits .right k b)) (stated k b e)
 
--- closed labels in which the same statements hold are themselves codes that meet everything, so that they tell apart what is not entailed
-module _ (P : Problem) (fits : Closable P) (E l : ℕ → ℕ) (low : Lowest E) (step : Coarsening P E l) (stated : Stated P l) (closed : Closed P l) where
+-- closed labels in which the same statements hold are themselves codes that meet everything, so that they tell apart what is not entailed; each term
+-- was alone at the start, where its label is its own number
+module _ (P : Problem) (fits : Closable P) (start l : ℕ → ℕ) (low : Lowest start) (own : (k : ℕ) → k < P .terms → start k ≡ k) (step : Coarsening P start l) (stated : Stated P l) (closed : Closed P l) where
   label-codes : ℕ → ℕ
   label-codes = named (P .terms) l
 
@@ -168,47 +175,29 @@ module _ (P : Problem) (fits : Closable P) (E l : ℕ → ℕ) (low : Lowest E) 
         same = λ k b e. own-codes (P .left k) (fits .left k b) ∙ stated k b e ∙ sym (own-codes (P .right k) (fits .right k b));
       }
 
-  labels-keep : Keeps P E label-codes
-  labels-keep i b =
-      let n = fits .terms in
-      let under : E i < P .terms = omega (arith, low .below i (omega arith)) in
-      own-codes (E i) under ∙ step .coarser (E i) i (omega arith) (omega arith) (low .self i (omega arith)) ∙ sym (own-codes i b)
-
-  pub labels-group : Groups P E l
+  pub labels-group : Groups P l
   labels-group =
       let n = fits .terms in
-      let complete : (i j : ℕ) → i < P .terms → j < P .terms → Entails P E i j → l i ≡ l j =
-      λ i j bi bj e. sym (own-codes i bi) ∙ e label-codes labels-model labels-keep ∙ own-codes j bj in
+      let complete : (i j : ℕ) → i < P .terms → j < P .terms → Entails P i j → l i ≡ l j =
+      λ i j bi bj e. sym (own-codes i bi) ∙ e label-codes labels-model ∙ own-codes j bj in
       let lowest = step .lowest low in
       record {
-        sound = λ i j bi bj e c models keeps.
-            let kept = step .sound c models keeps in
+        sound = λ i j bi bj e c models.
+            let kept = step .sound c models (λ k b. ap c (own k b)) in
             sym (kept i bi) ∙ ap c e ∙ kept j bj;
         complete = complete;
         lowest = lowest;
         least = λ i j bi bj e. omega (arith, complete i j bi bj e, lowest .below j (omega arith));
       }
 
--- labels that agree on the terms state the same
-pub groups-agree : (P : Problem) (E E′ l : ℕ → ℕ) → ((k : ℕ) → k < P .terms → E k ≡ E′ k) → Groups P E l → Groups P E′ l
-groups-agree P E E′ l agree g =
-    let to : (c : ℕ → ℕ) → Keeps P E c → Keeps P E′ c = λ c keeps i b. ap c (sym (agree i b)) ∙ keeps i b in
-    let from : (c : ℕ → ℕ) → Keeps P E′ c → Keeps P E c = λ c keeps i b. ap c (agree i b) ∙ keeps i b in
-    record {
-      sound = λ i j bi bj e c models keeps. g .sound i j bi bj e c models (from c keeps);
-      complete = λ i j bi bj e. g .complete i j bi bj (λ c models keeps. e c models (to c keeps));
-      lowest = g .lowest;
-      least = λ i j bi bj e. g .least i j bi bj (λ c models keeps. e c models (to c keeps));
-    }
-
 -- there is only one way to name the groups
-groups-lower : (P : Problem) (E l m : ℕ → ℕ) → P .terms ≤ 128 → Groups P E l → Groups P E m → (i : ℕ) → i < P .terms → m i ≤ l i
-groups-lower P E l m n g h i b =
+groups-lower : (P : Problem) (l m : ℕ → ℕ) → P .terms ≤ 128 → Groups P l → Groups P m → (i : ℕ) → i < P .terms → m i ≤ l i
+groups-lower P l m n g h i b =
     let there : l i < P .terms = omega (arith, g .lowest .below i (omega arith)) in
     h .least i (l i) b there (g .sound i (l i) b there (sym (g .lowest .self i (omega arith))))
 
-pub groups-unique : (P : Problem) (E l m : ℕ → ℕ) → P .terms ≤ 128 → Groups P E l → Groups P E m → (i : ℕ) → i < P .terms → l i ≡ m i
-groups-unique P E l m n g h i b = omega (arith, groups-lower P E l m n g h i b, groups-lower P E m l n h g i b)
+pub groups-unique : (P : Problem) (l m : ℕ → ℕ) → P .terms ≤ 128 → Groups P l → Groups P m → (i : ℕ) → i < P .terms → l i ≡ m i
+groups-unique P l m n g h i b = omega (arith, groups-lower P l m n g h i b, groups-lower P m l n h g i b)
 
-pub alone-lowest : (E : ℕ → ℕ) → ((k : ℕ) → k < 128 → E k ≡ alone k) → Lowest E
-alone-lowest E agree = record { below = λ k b. omega (arith, agree k b); self = λ k b. ap E (agree k b) }
+pub own-lowest : (l : ℕ → ℕ) → ((k : ℕ) → k < 128 → l k ≡ k) → Lowest l
+own-lowest l own = record { below = λ k b. omega (arith, own k b); self = λ k b. ap l (own k b) }

@@ -58,6 +58,10 @@ rounds (suc n) sh l =
 unfoldable pub labels : Sheet → List ℕ
 labels sh = rounds (length (sh .terms)) sh (stated sh)
 
+-- the number of a term's group: its label
+abbrev pub groupOf : Sheet → ℕ → ℕ
+groupOf sh e = at (labels sh) e
+
 -- two terms lie in one group
 abbrev pub together : Sheet → ℕ → ℕ → Bool
-together sh a b = eqb (at (labels sh) a) (at (labels sh) b)
+together sh a b = eqb (groupOf sh a) (groupOf sh b)

@@ -10,30 +10,22 @@ pub record Models (P : Problem) (c : ℕ → ℕ) : Type 0 where
   pub congruent : Congruent (P .terms) (P .symbol) (P .arg0) (P .arg1) c
   pub same : (k : ℕ) → k < P .literals → P .equal k ≡ 1 → c (P .left k) ≡ c (P .right k)
 
--- the codes meet the equalities that labels state: a term has the code of its label
-abbrev pub Keeps : Problem → (ℕ → ℕ) → (ℕ → ℕ) → Type 0
-Keeps P l c = (i : ℕ) → i < P .terms → c (l i) ≡ c i
-
--- the terms i and j have equal codes wherever the same statements and the equalities of the labels E hold
-abbrev pub Entails : Problem → (ℕ → ℕ) → ℕ → ℕ → Type 0
-Entails P E i j = (c : ℕ → ℕ) → Models P c → Keeps P E c → c i ≡ c j
-
--- the labels that state nothing: each term is alone
-abbrev pub alone : ℕ → ℕ
-alone i = i
+-- the terms i and j have equal codes wherever the same statements hold
+abbrev pub Entails : Problem → ℕ → ℕ → Type 0
+Entails P i j = (c : ℕ → ℕ) → Models P c → c i ≡ c j
 
 -- each label is the lowest number that has it
 pub record Lowest (l : ℕ → ℕ) : Type 0 where
   pub below : (i : ℕ) → i < mostTerms → l i ≤ i
   pub self : (i : ℕ) → i < mostTerms → l (l i) ≡ l i
 
--- the labels l name the groups of terms that the same statements and the equalities of E force together: equal labels exactly
--- where that is entailed, and each label is the group's lowest-numbered term
-pub record Groups (P : Problem) (E l : ℕ → ℕ) : Type 0 where
-  pub sound : (i j : ℕ) → i < P .terms → j < P .terms → l i ≡ l j → Entails P E i j
-  pub complete : (i j : ℕ) → i < P .terms → j < P .terms → Entails P E i j → l i ≡ l j
+-- the labels l name the groups of terms that the same statements force together: equal labels exactly where that is entailed, and each
+-- label is the group's lowest-numbered term
+pub record Groups (P : Problem) (l : ℕ → ℕ) : Type 0 where
+  pub sound : (i j : ℕ) → i < P .terms → j < P .terms → l i ≡ l j → Entails P i j
+  pub complete : (i j : ℕ) → i < P .terms → j < P .terms → Entails P i j → l i ≡ l j
   pub lowest : Lowest l
-  pub least : (i j : ℕ) → i < P .terms → j < P .terms → Entails P E i j → l i ≤ j
+  pub least : (i j : ℕ) → i < P .terms → j < P .terms → Entails P i j → l i ≤ j
 
 -- what the closure asks of a sheet: it fits the arrays, and both sides of each statement are there
 pub record Closable (P : Problem) : Type 0 where

@@ -1,4 +1,4 @@
--- The interface: Closure (the answer of forced by a computation), Forced (its meaning), Groups (what the code promises). For the proofs: Parts.
+-- The interface: Closure (the groups, computed), Forced (what forced and group mean), Groups (what the code promises). For the proofs: Parts.
 pub mod Closure
 pub mod Groups
 pub mod Forced

@@ -6,7 +6,7 @@ use lib.Dec.{ltb}
 use Rattle.logic.specs.Problem.{Problem}
 use Rattle.prelude.specs.Limits.{mostTerms}
 use Rattle.congruence.specs.Closure.{relabel}
-use Rattle.congruence.specs.Groups.{Models, Keeps, Lowest}
+use Rattle.congruence.specs.Groups.{Models, Lowest}
 use Rattle.congruence.specs.declared.Key.{Key}
 
 -- the groups of i and j are made one: all terms of the higher label take the lower
@@ -35,6 +35,10 @@ pub record Twin (P : Problem) (l : ℕ → ℕ) (j t : ℕ) : Type 0 where
 abbrev pub Closed : Problem → (ℕ → ℕ) → Type 0
 Closed P l = (i j : ℕ) → i < P .terms → j < P .terms → key P l i ≡ key P l j → l i ≡ l j
 
+-- the codes meet the equalities that labels state: a term has the code of its label
+abbrev pub Keeps : Problem → (ℕ → ℕ) → (ℕ → ℕ) → Type 0
+Keeps P l c = (i : ℕ) → i < P .terms → c (l i) ≡ c i
+
 -- from the labels l to m groups were only made one where every model of P that keeps to l has equal codes
 pub record Coarsening (P : Problem) (l m : ℕ → ℕ) : Type 0 where
   pub lower : (k : ℕ) → k < mostTerms → m k ≤ l k
@@ -49,4 +53,4 @@ Stated P l = (k : ℕ) → k < P .literals → P .equal k ≡ 1 → l (P .left k
 -- one sweep over the terms: where it changes no label, the labels are closed
 pub record Swept (P : Problem) (l m : ℕ → ℕ) : Type 0 where
   pub step : Coarsening P l m
-  pub closed : ((k : ℕ) → k < mostTerms → m k ≡ l k) → Closed P l
+  pub closed : ((k : ℕ) → k < mostTerms → m k ≡ l k) → Closed P m

@@ -11,7 +11,7 @@ ghost use Rattle.prelude.specs.Lists.{at, sumTo};
 ghost use Rattle.prelude.specs.Limits.{mostTerms};
 ghost use Rattle.layout.specs.Packed.{view};
 ghost use Rattle.congruence.specs.Closure.{relabel};
-ghost use Rattle.congruence.specs.Groups.{Groups, Closable, Lowest, alone};
+ghost use Rattle.congruence.specs.Groups.{Groups, Closable};
 ghost use Rattle.congruence.specs.Parts.{Joined, named, keyAt, Twin, Closed, Coarsening, Stated, Swept};
 
 // A symbol with the labels of its two arguments: terms with one key have equal codes.
@@ -21,22 +21,14 @@ pub(crate) struct Key {
     pub second: u8,
 }
 
-// The groups that the same statements of the sheet alone force together.
+// The number of each term's group: the lowest-numbered term that the same statements of the sheet force together with it.
 pub fn groups(p: Parsed) -> [u8; MOST_TERMS]
     requires { ⌜ Closable (view p) ⌝ }
-    ensures { λ r. ⌜ Groups (view p) alone (at r) ⌝ }
+    ensures { λ r. ⌜ Groups (view p) (at r) ⌝ }
 {
-    let labels = own_numbers();
-    closure(p, labels)
-}
-
-// The groups that the same statements of the sheet and the equalities of the starting labels force together.
-pub fn closure(p: Parsed, labels: [u8; MOST_TERMS]) -> [u8; MOST_TERMS]
-    requires { ⌜ (Closable (view p)) × (Lowest (at labels)) ⌝ }
-    ensures { λ r. ⌜ Groups (view p) (at labels) (at r) ⌝ }
-{
-    let out = stated(p, labels);
-    saturated(p, out)
+    let alone = own_numbers();
+    let labels = stated(p, alone);
+    saturated(p, labels)
 }
 
 // The groups that each same statement makes one.
@@ -68,7 +60,7 @@ fn saturated(p: Parsed, labels: [u8; MOST_TERMS]) -> [u8; MOST_TERMS]
     loop {
         let next = sweep(p, out);
         if weight(next) == weight(out) {
-            return out;
+            return next;
         }
         out = next;
     }

@@ -1,4 +1,5 @@
 pub mod Replies
+pub mod ByGroups
 pub mod NoPart
 pub mod Fixed
 pub mod Worked

@@ -1,7 +1,7 @@
 -- What the question "forced" answers, case by case.
 use Prim.Native.Nat.{ℕ, _≤_, _<_}
 use native.Mathlib.Omega.{arith}
-use mathlib.Core.Path.{_≡_, refl, ap, sym, _∙_}
+use mathlib.Core.Path.{_≡_, refl, ap, sym, _∙_, subst}
 use mathlib.Core.Bool.{Bool, true, false, false≢true, cond}
 use mathlib.Core.Logic.{_⊎_, inl, inr, _↔_}
 use mathlib.Core.List.{List}
@@ -9,21 +9,19 @@ use lib.ListN.{length}
 use borrow.Author.Tests.{ltb-true, lt-ltb, le-ltb, eq-eqb, ne-eqb}
 use Rattle.logic.specs.Sheet.{Sheet, sortAt}
 use Rattle.prelude.specs.Lists.{at}
+use Rattle.prelude.specs.Tests.{Within}
 use Rattle.prelude.proofs.Tests.{and-both}
-use Rattle.logic.specs.WellFormed.{WellFormed}
 use Rattle.layout.specs.Layout.{Reading, accepted, refused, reading}
-use Rattle.layout.specs.Packed.{packed, view}
+use Rattle.layout.specs.Packed.{view}
 use Rattle.sheet.specs.Verdict.{parsing}
-use Rattle.layout.specs.declared.Parsed.{Parsed}
 use Rattle.sheet.specs.declared.Parsing.{Parsing}
 use Rattle.layout.proofs.Answers.{refused-number, accepted-well-formed}
-use Rattle.sheet.proofs.Verdicts.{Accepts, number-accepted, number-refused}
-use Rattle.layout.proofs.View.{packed-views}
-use Rattle.congruence.specs.Closure.{together}
-use Rattle.congruence.specs.Groups.{Groups, Closable, alone}
+use Rattle.sheet.proofs.Verdicts.{Accepts, number-refused}
+use Rattle.congruence.specs.Closure.{groupOf, together}
+use Rattle.congruence.specs.Groups.{Groups}
 use Rattle.congruence.specs.Forced.{Forced}
-use Rattle.congruence.proofs.Structures.{views-closable}
-use Rattle.congruence.proofs.Closing.{labels-unique, together-exactly}
+use Rattle.congruence.proofs.Closing.{together-exactly}
+use Rattle.group.proofs.Parsed.{parsed-sheet, parsed-terms, parsed-sort, parsed-group}
 use Rattle.forced.specs.declared.Forcing.the-variants.{Yes, No, Refused}
 use Rattle.forced.specs.Forcing.{comparable, forcingOf, forcing}
 
@@ -33,18 +31,18 @@ unfolding forcing
 refused-reply s a b p e nonzero = rw (number-refused s p e nonzero .reads) refl
 
 -- forced refuses with the number of a refused sheet, or with 13
-pub refusal-number : (s : List ℕ) (a b n i : ℕ) → forcing s a b ≡ Refused n i → (n ≤ 9) ⊎ (n ≡ 13)
+pub refusal-number : (s : List ℕ) (a b n i : ℕ) → forcing s a b ≡ Refused n i → Within 1 9 n ⊎ (n ≡ 13)
 unfolding forcing
 refusal-number s a b n i e = by (reading s) refl e
   where
-    replied : (c t : Bool) → cond c (cond t Yes No) (Refused 13 0) ≡ Refused n i → (n ≤ 9) ⊎ (n ≡ 13)
+    replied : (c t : Bool) → cond c (cond t Yes No) (Refused 13 0) ≡ Refused n i → Within 1 9 n ⊎ (n ≡ 13)
     replied true true z = let never : _≡_ {A = ℕ} 0 1 = cc in absurd (omega arith)
     replied true false z = let never : _≡_ {A = ℕ} 0 1 = cc in absurd (omega arith)
     replied false t z = inr cc
 
-    by : (R : Reading) → reading s ≡ R → forcingOf R a b ≡ Refused n i → (n ≤ 9) ⊎ (n ≡ 13)
+    by : (R : Reading) → reading s ≡ R → forcingOf R a b ≡ Refused n i → Within 1 9 n ⊎ (n ≡ 13)
     by (accepted sh) q z = replied (comparable sh a b) (together sh a b) z
-    by (refused m j) q z = let same : m ≡ n = cc in inl (omega (arith, refused-number s m j q))
+    by (refused m j) q z = let same : m ≡ n = cc in inl (subst (Within 1 9) same (refused-number s m j q))
 
 -- an accepted sheet
 module _ (s : List ℕ) (sh : Sheet) (e : reading s ≡ accepted sh) (a b : ℕ) where
@@ -71,64 +69,59 @@ module _ (s : List ℕ) (sh : Sheet) (e : reading s ≡ accepted sh) (a b : ℕ)
     both-there : sortAt sh a ≡ sortAt sh b → comparable sh a b ≡ true
     both-there h = rw (lt-ltb a (length (sh .terms)) first, lt-ltb b (length (sh .terms)) second, eq-eqb (sortAt sh a) (sortAt sh b) h)
 
-    -- labels that name the groups are those of the closure
-    module _ (one : sortAt sh a ≡ sortAt sh b) (w : WellFormed sh) (l : ℕ → ℕ) (g : Groups (view (packed sh)) alone l) where
-      pub one-group : l a ≡ l b → Yes ≡ forcing s a b
-      one-group h =
-          let t : together sh a b ≡ true = eq-eqb _ _ (sym (labels-unique sh w l g a first) ∙ h ∙ labels-unique sh w l g b second) in
-          sym (decided (both-there one) ∙ rw t)
+    -- the numbers of the two groups are compared
+    pub one-group : sortAt sh a ≡ sortAt sh b → groupOf sh a ≡ groupOf sh b → Yes ≡ forcing s a b
+    one-group one h = let t : together sh a b ≡ true = eq-eqb _ _ h in sym (decided (both-there one) ∙ rw t)
 
-      pub two-groups : (l a ≡ l b → ⊥) → No ≡ forcing s a b
-      two-groups h =
-          let t : together sh a b ≡ false = ne-eqb _ _ (λ same. h (labels-unique sh w l g a first ∙ same ∙ sym (labels-unique sh w l g b second))) in
-          sym (decided (both-there one) ∙ rw t)
+    pub two-groups : sortAt sh a ≡ sortAt sh b → (groupOf sh a ≡ groupOf sh b → ⊥) → No ≡ forcing s a b
+    two-groups one h = let t : together sh a b ≡ false = ne-eqb _ _ h in sym (decided (both-there one) ∙ rw t)
 
 -- the same of a parsed sheet that was not refused
 module _ (s : List ℕ) (p : Parsing) (e : p ≡ parsing (reading s)) (zero : p .number ≡ 0) where
-  got : Accepts s p
-  got = number-accepted s p e zero
+  abbrev got : Accepts s p
+  got = parsed-sheet s p e zero
 
-  formed : WellFormed (got .sheet)
-  formed = accepted-well-formed s (got .sheet) (got .reads)
+  many : p .sheet .terms ≡ length (got .sheet .terms)
+  many = parsed-terms s p e zero
 
-  parsed-terms : p .sheet .terms ≡ length (got .sheet .terms)
-  parsed-terms = ap (λ (x : Parsed). x .terms) (got .same) ∙ packed-views (got .sheet) .terms
-
-  parsed-sort : (i : ℕ) → i < length (got .sheet .terms) → at (p .sheet .sort) i ≡ sortAt (got .sheet) i
-  parsed-sort i b = ap (λ (x : Parsed). at (x .sort) i) (got .same) ∙ packed-views (got .sheet) .sort i b
-
-  pub parsed-closable : Closable (view (p .sheet))
-  parsed-closable = rw (got .same) (views-closable (got .sheet) formed (view (packed (got .sheet))) (packed-views (got .sheet)))
+  sort : (i : ℕ) → i < length (got .sheet .terms) → at (p .sheet .sort) i ≡ sortAt (got .sheet) i
+  sort = parsed-sort s p e zero
 
   module _ (a b : ℕ) where
     pub parsed-absent-first : p .sheet .terms ≤ a → Refused 13 0 ≡ forcing s a b
-    parsed-absent-first h = absent-first s (got .sheet) (got .reads) a b (omega (arith, parsed-terms))
+    parsed-absent-first h = absent-first s (got .sheet) (got .reads) a b (omega (arith, many))
 
     pub parsed-absent-second : a < p .sheet .terms → p .sheet .terms ≤ b → Refused 13 0 ≡ forcing s a b
-    parsed-absent-second there h =
-        absent-second s (got .sheet) (got .reads) a b (omega (arith, parsed-terms)) (omega (arith, parsed-terms))
+    parsed-absent-second there h = absent-second s (got .sheet) (got .reads) a b (omega (arith, many)) (omega (arith, many))
 
     module _ (first : a < p .sheet .terms) (second : b < p .sheet .terms) where
       first-there : a < length (got .sheet .terms)
-      first-there = omega (arith, parsed-terms)
+      first-there = omega (arith, many)
 
       second-there : b < length (got .sheet .terms)
-      second-there = omega (arith, parsed-terms)
+      second-there = omega (arith, many)
 
       pub parsed-other-sorts : (at (p .sheet .sort) a ≡ at (p .sheet .sort) b → ⊥) → Refused 13 0 ≡ forcing s a b
       parsed-other-sorts h =
           other-sorts s (got .sheet) (got .reads) a b first-there second-there
-          (λ same. h (parsed-sort a first-there ∙ same ∙ sym (parsed-sort b second-there)))
+          (λ same. h (sort a first-there ∙ same ∙ sym (sort b second-there)))
 
-      module _ (one : at (p .sheet .sort) a ≡ at (p .sheet .sort) b) (l : ℕ → ℕ) (g : Groups (view (p .sheet)) alone l) where
+      module _ (one : at (p .sheet .sort) a ≡ at (p .sheet .sort) b) (l : ℕ → ℕ) (g : Groups (view (p .sheet)) l) where
         one-sort : sortAt (got .sheet) a ≡ sortAt (got .sheet) b
-        one-sort = sym (parsed-sort a first-there) ∙ one ∙ parsed-sort b second-there
+        one-sort = sym (sort a first-there) ∙ one ∙ sort b second-there
+
+        number : (i : ℕ) → i < length (got .sheet .terms) → l i ≡ groupOf (got .sheet) i
+        number = parsed-group s p e zero l g
 
         pub parsed-one-group : l a ≡ l b → Yes ≡ forcing s a b
-        parsed-one-group = one-group s (got .sheet) (got .reads) a b first-there second-there one-sort formed l (rw (got .same) at g)
+        parsed-one-group h =
+            one-group s (got .sheet) (got .reads) a b first-there second-there one-sort
+            (sym (number a first-there) ∙ h ∙ number b second-there)
 
         pub parsed-two-groups : (l a ≡ l b → ⊥) → No ≡ forcing s a b
-        parsed-two-groups = two-groups s (got .sheet) (got .reads) a b first-there second-there one-sort formed l (rw (got .same) at g)
+        parsed-two-groups h =
+            two-groups s (got .sheet) (got .reads) a b first-there second-there one-sort
+            (λ same. h (number a first-there ∙ same ∙ sym (number b second-there)))
 
 -- the answer to an accepted sheet and two terms of one sort is yes exactly when they are forced together, and no exactly when not
 module _ (s : List ℕ) (a b : ℕ) (sh : Sheet) (e : reading s ≡ accepted sh) (c : comparable sh a b ≡ true) where

@@ -1,4 +1,4 @@
-// The question "forced": have two terms one code wherever the same statements of a sheet hold?
+// The question "forced": have two terms one code wherever the same statements of a sheet hold? Their groups have one number then.
 use congruence::groups;
 use sheet::parse;
 ghost use mathlib.Core.Path.{_≡_};

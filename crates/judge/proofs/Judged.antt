@@ -1,5 +1,5 @@
 -- Demand 2 for judge: its reply is the true one, and the only true one (`Says` of specs/Judge.antt).
-use Prim.Native.Nat.{ℕ, _+_, _≤_}
+use Prim.Native.Nat.{ℕ, _+_}
 use native.Mathlib.Decide.{decLt}
 use native.Mathlib.Omega.{arith}
 use mathlib.Core.Path.{_≡_, refl, ap, ap₂, sym, _∙_, subst}
@@ -9,6 +9,7 @@ use mathlib.Core.List.{List}
 use lib.ListN.{length}
 use Rattle.logic.specs.Sheet.{Sheet, literalAt, noLiteral}
 use Rattle.prelude.specs.Lists.{at}
+use Rattle.prelude.specs.Tests.{Within}
 use Rattle.prelude.proofs.Tests.{decided, true-not-false}
 use Rattle.logic.specs.Structure.{code, Bounded}
 use Rattle.layout.specs.Layout.{Reading, accepted, refused, reading}
@@ -104,10 +105,10 @@ unfolding judgement
 judgement-says s t sh e j = rw e (judged-says sh t j)
 
 -- judge refuses with the number of a refused sheet, or with 12
-pub judgement-number : (s t : List ℕ) (n i : ℕ) → judgement s t ≡ Refused n i → (n ≤ 9) ⊎ (n ≡ 12)
+pub judgement-number : (s t : List ℕ) (n i : ℕ) → judgement s t ≡ Refused n i → Within 1 9 n ⊎ (n ≡ 12)
 unfolding judgement
 judgement-number s t n i e = by (reading s) refl e
   where
-    by : (R : Reading) → reading s ≡ R → judgedOf R t ≡ Refused n i → (n ≤ 9) ⊎ (n ≡ 12)
+    by : (R : Reading) → reading s ≡ R → judgedOf R t ≡ Refused n i → Within 1 9 n ⊎ (n ≡ 12)
     by (accepted sh) q z = inr (judged-says sh t (Refused n i) .0 z .0)
-    by (refused m j) q z = let same : m ≡ n = cc in inl (omega (arith, refused-number s m j q))
+    by (refused m j) q z = let same : m ≡ n = cc in inl (subst (Within 1 9) same (refused-number s m j q))

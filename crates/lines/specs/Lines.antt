@@ -14,6 +14,8 @@ use Rattle.tables.specs.declared.Judgement.{Judgement}
 use Rattle.tables.specs.declared.Judgement.the-variants.{Fits, OutOfBounds, Broken, Refused as Judgement·Refused}
 use Rattle.forced.specs.declared.Forcing.{Forcing}
 use Rattle.forced.specs.declared.Forcing.the-variants.{Yes, No, Refused as Forcing·Refused}
+use Rattle.group.specs.declared.Grouping.{Grouping}
+use Rattle.group.specs.declared.Grouping.the-variants.{Group, Refused as Grouping·Refused}
 
 -- a line without a number
 abbrev pub plainLine : List ℕ → List ℕ
@@ -58,6 +60,11 @@ abbrev pub forcingLine : Forcing → List ℕ
 forcingLine Yes = plainLine (ascii "yes")
 forcingLine No = plainLine (ascii "no")
 forcingLine (Forcing·Refused number place) = refusalLine number place
+
+-- group
+abbrev pub groupingLine : Grouping → List ℕ
+groupingLine (Group k) = line (ascii "group") (k ∷ [])
+groupingLine (Grouping·Refused number place) = refusalLine number place
 
 -- table of a name
 abbrev pub stretchLine : ℕ → ℕ → List ℕ

@@ -1,6 +1,7 @@
 // The answer lines of `ask`: one for each answer that a question can have, written in front of a lent buffer. Each function gives the line's
 // length.
 use forced::Forcing;
+use group::Grouping;
 use prelude::wide;
 use sheet::Verdict;
 use tables::Judgement;
@@ -8,7 +9,7 @@ use words::Complaint;
 ghost use Prim.Native.Nat.{_≤_};
 ghost use lib.ListN.{length};
 ghost use Rattle.text.specs.Text.{Wrote};
-ghost use Rattle.lines.specs.Lines.{complaintLine, verdictLine, judgementLine, forcingLine, stretchLine};
+ghost use Rattle.lines.specs.Lines.{complaintLine, verdictLine, judgementLine, forcingLine, groupingLine, stretchLine};
 
 // What is wrong with a question.
 pub fn complaint_line(out: &mut [u8], c: Complaint) -> usize
@@ -60,6 +61,17 @@ pub fn forcing_line(out: &mut [u8], f: Forcing) -> usize
         Forcing::Yes => text::put(out, 0, b"yes\n"),
         Forcing::No => text::put(out, 0, b"no\n"),
         Forcing::Refused { number, place } => text::refused_line(out, wide(number), place),
+    }
+}
+
+// The answer to group.
+pub fn grouping_line(out: &mut [u8], g: Grouping) -> usize
+    requires { ⌜ 2048 ≤ length (now out) ⌝ }
+    ensures { λ r. ⌜ Wrote (now (out .entry)) 0 (groupingLine g) (now (out .exit)) r ⌝ }
+{
+    match g {
+        Grouping::Group(k) => text::number_line(out, b"group", k),
+        Grouping::Refused { number, place } => text::refused_line(out, wide(number), place),
     }
 }
 

@@ -1,4 +1,4 @@
--- Interface. What ask prints for a line that asks read, judge, forced or table of a name (docs/FORMAT.md, "Asking line by line").
+-- Interface. What ask prints for a line that asks read, judge, forced, group or table of a name (docs/FORMAT.md, "Asking line by line").
 use Prim.Native.Nat.{ℕ}
 use mathlib.Core.Bool.{cond}
 use mathlib.Core.List.{List}
@@ -9,7 +9,8 @@ use Rattle.layout.specs.Layout.{reading}
 use Rattle.sheet.specs.Verdict.{verdict}
 use Rattle.judge.specs.Judge.{Stretch, judgement, tableOf}
 use Rattle.forced.specs.Forcing.{forcing}
-use Rattle.lines.specs.Lines.{complaintLine, verdictLine, judgementLine, forcingLine, stretchLine}
+use Rattle.group.specs.Grouping.{grouping}
+use Rattle.lines.specs.Lines.{complaintLine, verdictLine, judgementLine, forcingLine, groupingLine, stretchLine}
 
 -- the bytes and the number of word k, the verb being word 0
 abbrev pub bytesAt : List ℕ → ℕ → List ℕ
@@ -33,6 +34,10 @@ judgeReply line = unlessWrong (ascii "bb") line (judgementLine (judgement (bytes
 -- forced SHEET A B
 unfoldable pub forcedReply : List ℕ → List ℕ
 forcedReply line = unlessWrong (ascii "bnn") line (forcingLine (forcing (bytesAt line 1) (numberAt line 2) (numberAt line 3)))
+
+-- group SHEET E
+unfoldable pub groupReply : List ℕ → List ℕ
+groupReply line = unlessWrong (ascii "bn") line (groupingLine (grouping (bytesAt line 1) (numberAt line 2)))
 
 -- table SHEET TABLES NAME
 abbrev pub stretchReply : Stretch → List ℕ

@@ -1,7 +1,8 @@
-// The questions of `ask` that need no search: read, judge, forced and table of a name, one function for each verb. Each answers a line that has its
+// The questions of `ask` that need no search: read, judge, forced, group and table of a name, one function for each verb. Each answers a line that has its
 // verb, in front of a lent buffer, and gives the answer line's length.
 use lines::complaint_line;
 use lines::forcing_line;
+use lines::grouping_line;
 use lines::judgement_line;
 use lines::stretch_line;
 use lines::verdict_line;
@@ -13,7 +14,7 @@ use words::wrong_with;
 ghost use Prim.Native.Nat.{_≤_};
 ghost use lib.ListN.{length};
 ghost use Rattle.text.specs.Text.{Wrote};
-ghost use Rattle.questions.specs.Questions.{readReply, judgeReply, forcedReply, tableReply};
+ghost use Rattle.questions.specs.Questions.{readReply, judgeReply, forcedReply, groupReply, tableReply};
 
 // The most bytes that the words of a line can stand for.
 pub const MOST_DECODED: usize = 131072;
@@ -62,6 +63,21 @@ pub fn forced_question(line: &[u8], out: &mut [u8]) -> usize
     let a = number(word(line, 2));
     let b = number(word(line, 3));
     forcing_line(out, forced::forced(&sheet[..n], a, b))
+}
+
+// group SHEET E
+pub fn group_question(line: &[u8], out: &mut [u8]) -> usize
+    requires { ⌜ (length (now line) ≤ 262144) × (65536 ≤ length (now out)) ⌝ }
+    ensures { λ r. ⌜ Wrote (now (out .entry)) 0 (groupReply (now (line .entry))) (now (out .exit)) r ⌝ }
+{
+    let wrong = wrong_with(line, b"bn");
+    if is_wrong(wrong) {
+        return complaint_line(out, wrong);
+    }
+    let mut sheet = [0u8; MOST_DECODED];
+    let n = decode(word(line, 1), &mut sheet);
+    let e = number(word(line, 2));
+    grouping_line(out, group::group(&sheet[..n], e))
 }
 
 // table SHEET TABLES NAME

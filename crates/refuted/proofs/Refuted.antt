@@ -23,6 +23,10 @@ use Rattle.tables.specs.declared.Judgement.the-variants.{Fits, OutOfBounds}
 use Rattle.tables.proofs.Laid.{well-laid-test}
 use Rattle.judge.specs.Judge.{judged, judgement}
 use Rattle.forced.proofs.Fixed.{no-fixed-reply}
+use Rattle.group.specs.declared.Grouping.the-variants.{Group}
+use Rattle.group.proofs.Replies.{answer-exactly, number-named}
+use Rattle.group.proofs.NoPart.{answered-alike}
+use Rattle.group.proofs.Worked as group-worked
 use Rattle.finder.specs.Find.{turnedDown, ceilings, outcome, tablesAfter}
 use Rattle.answer.specs.Demand.{Hopeless}
 use Rattle.finder.specs.Promise.{tablesWritten}
@@ -34,7 +38,7 @@ use Rattle.worked.proofs.EmptySheet.{empty-sheet}
 use Rattle.finder.proofs.Outcomes.{outcome-refused, outcome-short}
 use Rattle.finder.proofs.Buffers.{exit}
 use Rattle.finder.proofs.Delivery.{accepted-promised}
-use Rattle.refuted.specs.WrongPrograms.{FindProgram, MeetsFind, LetThrough, ElevenForAll, NeverLooks, ElevenBeforeLooking, SameTables, NoCodeWritten, NoTableWritten, OtherSizesZero, OtherCodesZero, InventedSum, ReadProgram, MeetsRead, RefusesEverySheet, RefusesNoBytes, JudgeProgram, MeetsJudge, FixedJudgement, PassesTablesForNoBytes, Refuted}
+use Rattle.refuted.specs.WrongPrograms.{FindProgram, MeetsFind, LetThrough, ElevenForAll, NeverLooks, ElevenBeforeLooking, SameTables, NoCodeWritten, NoTableWritten, OtherSizesZero, OtherCodesZero, InventedSum, ReadProgram, MeetsRead, RefusesEverySheet, RefusesNoBytes, JudgeProgram, MeetsJudge, FixedJudgement, PassesTablesForNoBytes, GroupProgram, MeetsGroup, GivesItself, GivesHighest, OneRound, CountsDiffer, Refuted}
 
 -- ---- the worked sheets that refute
 one-field : Shows row1
@@ -221,6 +225,39 @@ not-fixed-judgement p r meets wrong =
 not-passes-tables-for-no-bytes : (p : JudgeProgram) → MeetsJudge p → PassesTablesForNoBytes p → ⊥
 not-passes-tables-for-no-bytes p meets wrong = wrong .1 (empty-sheet .fits (wrong .0) .0 (sym (meets [] (wrong .0)) ∙ wrong .2))
 
+-- ---- group
+-- worked sheet 10, in which expression 2 is forced together with 0
+not-gives-itself : (p : GroupProgram) → MeetsGroup p → GivesItself p → ⊥
+not-gives-itself p meets wrong =
+    let lower = group-worked.answers-twice .2 in
+    let n = number-named group-worked.twice 2 0 lower in
+    let e : Group 2 ≡ Group 0 = sym (wrong group-worked.twice (n .sheet) 2 (n .reads) (n .there)) ∙ meets group-worked.twice 2 ∙ lower in
+    let z : _≡_ {A = ℕ} 2 0 = cc in
+    omega arith
+
+not-gives-highest : (p : GroupProgram) → MeetsGroup p → GivesHighest p → ⊥
+not-gives-highest p meets wrong =
+    let lower = group-worked.answers-twice .2 in
+    let n = number-named group-worked.twice 2 0 lower in
+    let forced = answer-exactly group-worked.twice (n .sheet) (n .reads) 2 (n .there) 0 .0 lower .forced in
+    let own = meets group-worked.twice 0 ∙ group-worked.answers-twice .0 in
+    omega (arith, wrong group-worked.twice (n .sheet) 0 0 (n .reads) (omega (arith, n .there)) own 2 (n .there) (λ M interprets sat. sym (forced M interprets sat)))
+
+-- worked sheet 11
+not-one-round : (p : GroupProgram) → MeetsGroup p → OneRound p → ⊥
+not-one-round p meets wrong =
+    let lower = group-worked.answers-repeatedly in
+    let n = number-named group-worked.repeatedly 1 0 lower in
+    let e = sym (wrong group-worked.repeatedly (n .sheet) 1 (n .reads) (n .there)) ∙ meets group-worked.repeatedly 1 ∙ lower in
+    let one : Group 1 ≡ Group 0 = sym (ap Group (group-worked.one-round (n .sheet) (n .reads))) ∙ e in
+    let z : _≡_ {A = ℕ} 1 0 = cc in
+    omega arith
+
+not-counts-differ : (p : GroupProgram) → MeetsGroup p → CountsDiffer p → ⊥
+not-counts-differ p meets wrong =
+    let alike = answered-alike (wrong .read) (wrong .readOther) (wrong .same) (wrong .sheet) (wrong .other) (wrong .term) (wrong .reads) (wrong .readsOther) in
+    wrong .differs (meets (wrong .sheet) (wrong .term) ∙ alike ∙ sym (meets (wrong .other) (wrong .term)))
+
 -- THEOREM: the wrong programs are refuted
 pub refuted : Refuted
 refuted =
@@ -239,4 +276,8 @@ refuted =
       fixed-judgement = not-fixed-judgement;
       passes-tables-for-no-bytes = not-passes-tables-for-no-bytes;
       fixed-forcing = λ p r meets wrong. no-fixed-reply r (λ s sh a b q t. sym (wrong s a b sh q t) ∙ meets s a b);
+      gives-itself = not-gives-itself;
+      gives-highest = not-gives-highest;
+      one-round = not-one-round;
+      counts-differ = not-counts-differ;
     }

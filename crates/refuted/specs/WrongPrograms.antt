@@ -1,6 +1,6 @@
--- The interface: the wrong programs of docs/CONTRACTS.md, "Contracts owed", c, in that order, and those about a sheet of zero bytes. A program is
--- what it gives back, and leaves in the buffers, for every call; to meet a contract is to do so at every call. `refuted` of proofs/Refuted.antt: none
--- of these meets the contract of its question.
+-- The interface: the wrong programs of docs/CONTRACTS.md, "Contracts owed", c, in that order, and those of the requests: about a sheet of zero bytes,
+-- and about group. A program is what it gives back, and leaves in the buffers, for every call; to meet a contract is to do so at every call. `refuted`
+-- of proofs/Refuted.antt: none of these meets the contract of its question.
 use Prim.Native.Nat.{ℕ, _≤_, _<_}
 use mathlib.Core.Path.{_≡_}
 use mathlib.Core.Bool.{true}
@@ -18,6 +18,11 @@ use Rattle.tables.specs.declared.Judgement.the-variants.{Fits}
 use Rattle.judge.specs.Judge.{judgement}
 use Rattle.forced.specs.Forcing.{comparable, forcing}
 use Rattle.forced.specs.declared.Forcing.{Forcing}
+use Rattle.congruence.specs.Closure.{stated, round}
+use Rattle.congruence.specs.Forced.{Forced, SameStatements}
+use Rattle.group.specs.Grouping.{grouping}
+use Rattle.group.specs.declared.Grouping.{Grouping}
+use Rattle.group.specs.declared.Grouping.the-variants.{Group}
 use Rattle.finder.specs.Find.{ceilings, Finds}
 use Rattle.answer.specs.Demand.{Hopeless}
 use Rattle.finder.specs.declared.Finding.{Finding}
@@ -128,6 +133,37 @@ MeetsForced p = (s : List ℕ) (a b : ℕ) → p s a b ≡ forcing s a b
 abbrev pub FixedForcing : ForcedProgram → Forcing → Type 0
 FixedForcing p r = (s : List ℕ) (a b : ℕ) (sh : Sheet) → reading s ≡ accepted sh → comparable sh a b ≡ true → p s a b ≡ r
 
+-- ---- GROUP (request (b))
+abbrev pub GroupProgram : Type 0
+GroupProgram = List ℕ → ℕ → Grouping
+
+abbrev pub MeetsGroup : GroupProgram → Type 0
+MeetsGroup p = (s : List ℕ) (e : ℕ) → p s e ≡ grouping s e
+
+-- gives, for each expression of an accepted sheet, the expression itself
+abbrev pub GivesItself : GroupProgram → Type 0
+GivesItself p = (s : List ℕ) (sh : Sheet) (e : ℕ) → reading s ≡ accepted sh → e < length (sh .terms) → p s e ≡ Group e
+
+-- .. a number above which none of the expressions lies that are forced together with it, as the highest-numbered of them is
+abbrev pub GivesHighest : GroupProgram → Type 0
+GivesHighest p = (s : List ℕ) (sh : Sheet) (e k : ℕ) → reading s ≡ accepted sh → e < length (sh .terms) → p s e ≡ Group k → (j : ℕ) → j < length (sh .terms) → Forced sh j e → j ≤ k
+
+-- .. its label after one round of the congruence rule
+abbrev pub OneRound : GroupProgram → Type 0
+OneRound p = (s : List ℕ) (sh : Sheet) (e : ℕ) → reading s ≡ accepted sh → e < length (sh .terms) → p s e ≡ Group (at (round sh (stated sh)) e)
+
+-- counts a differ statement, or a floor, a ceiling or the total: two accepted sheets that differ in no more are answered differently
+pub record CountsDiffer (p : GroupProgram) : Type 0 where
+  pub sheet : List ℕ
+  pub other : List ℕ
+  pub read : Sheet
+  pub readOther : Sheet
+  pub reads : reading sheet ≡ accepted read
+  pub readsOther : reading other ≡ accepted readOther
+  pub same : SameStatements read readOther
+  pub term : ℕ
+  pub differs : p sheet term ≡ p other term → ⊥
+
 -- ---- ALL OF THEM
 pub record Refuted : Type 0 where
   pub eleven-for-all : (p : FindProgram) → MeetsFind p → ElevenForAll p → ⊥
@@ -144,3 +180,7 @@ pub record Refuted : Type 0 where
   pub fixed-judgement : (p : JudgeProgram) (r : Judgement) → MeetsJudge p → FixedJudgement p r → ⊥
   pub passes-tables-for-no-bytes : (p : JudgeProgram) → MeetsJudge p → PassesTablesForNoBytes p → ⊥
   pub fixed-forcing : (p : ForcedProgram) (r : Forcing) → MeetsForced p → FixedForcing p r → ⊥
+  pub gives-itself : (p : GroupProgram) → MeetsGroup p → GivesItself p → ⊥
+  pub gives-highest : (p : GroupProgram) → MeetsGroup p → GivesHighest p → ⊥
+  pub one-round : (p : GroupProgram) → MeetsGroup p → OneRound p → ⊥
+  pub counts-differ : (p : GroupProgram) → MeetsGroup p → CountsDiffer p → ⊥

@@ -12,7 +12,7 @@ use Rattle.tables.specs.Layout.{encoded}
 use Rattle.answer.specs.Answer.{sum, structureOf}
 use Rattle.finder.specs.Find.{Outcome, turnedDown, answered, outcome}
 use Rattle.lines.specs.Lines.{refusalLine, emptyLine, longLine, unknownLine}
-use Rattle.questions.specs.Questions.{bytesAt, numberAt, unlessWrong, readReply, judgeReply, forcedReply, tableReply}
+use Rattle.questions.specs.Questions.{bytesAt, numberAt, unlessWrong, readReply, judgeReply, forcedReply, groupReply, tableReply}
 
 -- the answer line of find
 abbrev pub findLine : Outcome → List ℕ
@@ -30,7 +30,8 @@ verbReply verb line =
     (cond (sameList verb (ascii "find")) (findReply line)
     (cond (sameList verb (ascii "judge")) (judgeReply line)
     (cond (sameList verb (ascii "forced")) (forcedReply line)
-    (cond (sameList verb (ascii "table")) (tableReply line) unknownLine))))
+    (cond (sameList verb (ascii "group")) (groupReply line)
+    (cond (sameList verb (ascii "table")) (tableReply line) unknownLine)))))
 
 unfoldable pub asked : List ℕ → List ℕ
 asked line = verbReply (wordAt line 0) line

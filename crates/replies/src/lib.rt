@@ -7,6 +7,7 @@ use prelude::MOST_TERMS;
 use prelude::wide;
 use questions::MOST_DECODED;
 use questions::forced_question;
+use questions::group_question;
 use questions::judge_question;
 use questions::read_question;
 use questions::table_question;
@@ -76,6 +77,9 @@ fn answer_asked(line: &[u8], out: &mut [u8]) -> usize
     }
     if same(verb, b"forced") {
         return forced_question(line, out);
+    }
+    if same(verb, b"group") {
+        return group_question(line, out);
     }
     if same(verb, b"table") {
         return table_question(line, out);

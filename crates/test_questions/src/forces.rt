@@ -3,13 +3,10 @@ use crate::tally::COUNTS;
 use crate::tally::FORCED;
 use crate::tally::FREE;
 use crate::tally::NO_PAIR;
-use crate::tally::SETTLED;
-use crate::tally::add;
 use crate::tally::expect;
 use crate::tally::refusal;
 use forced::Forcing;
 use test_listing::apart::PAIRS;
-use test_listing::apart::tell_apart;
 use test_listing::apart::together;
 use test_sheets::numbers::smaller;
 use test_sheets::numbers::times;
@@ -20,14 +17,11 @@ use test_sheets::plan::count;
 use test_sheets::plan::sort_of;
 
 // Each term, and one that is not there, with each.
-pub fn compare(p: [u8; PLAN], sheet: &[u8], counts: &mut [u64; COUNTS]) {
-    let mut pairs = [0u8; PAIRS];
-    tell_apart(p, &mut pairs);
-    add(counts, SETTLED, 1);
+pub fn compare(p: [u8; PLAN], pairs: &[u8; PAIRS], sheet: &[u8], counts: &mut [u64; COUNTS]) {
     let m = smaller(count(p, TERMS), MOST_TERMS) + 1;
     let n = times(m, m);
     for k in 0..n {
-        pair(p, k / m, k % m, &pairs, sheet, counts);
+        pair(p, k / m, k % m, pairs, sheet, counts);
     }
 }
 

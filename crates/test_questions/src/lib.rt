@@ -1,7 +1,9 @@
-// Judge, table of a name and forced, asked about a small sheet and held against the listing of its interpretations. Find is asked by the program
+// Judge, table of a name, forced and group, asked about a small sheet and held against the listing of its interpretations. Find is asked by the program
 // test_trial, so that this crate does not wait for the search's proofs.
 pub mod forces; // forced is asked
+pub mod groupings; // group is asked
 pub mod judges; // judge is asked
 pub mod slices; // parts of bytes
 pub mod stretches; // table of a name is asked
 pub mod tally; // what was compared
+pub mod ties; // forced and group, over one listing

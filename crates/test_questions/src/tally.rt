@@ -8,7 +8,7 @@ use test_sheets::plan::TERMS;
 use test_sheets::plan::count;
 use test_sheets::plan::record_at;
 
-pub const COUNTS: usize = 23;
+pub const COUNTS: usize = 26;
 
 // The counts, in the order of the report.
 pub const SHEETS: usize = 0;
@@ -55,7 +55,13 @@ pub const FREE: usize = 20;
 
 pub const NO_PAIR: usize = 21;
 
-pub const DIFFERENCES: usize = 22;
+pub const LOWER: usize = 22;
+
+pub const OWN: usize = 23;
+
+pub const NO_TERM: usize = 24;
+
+pub const DIFFERENCES: usize = 25;
 
 pub fn add(counts: &mut [u64; COUNTS], at: usize, n: usize) {
     let k = at % COUNTS;
@@ -101,11 +107,8 @@ pub fn refusal(number: u8, place: usize) -> usize {
 
 pub fn report(counts: &[u64; COUNTS]) {
     let n = report_find(counts, report_sheets(counts, 0));
-    fill(
-        b"differences #\n",
-        counts,
-        report_forced(counts, report_judge(counts, n)),
-    );
+    let m = report_forced(counts, report_judge(counts, n));
+    fill(b"differences #\n", counts, report_group(counts, m));
 }
 
 fn report_sheets(counts: &[u64; COUNTS], n: usize) -> usize {
@@ -135,6 +138,14 @@ fn report_judge(counts: &[u64; COUNTS], n: usize) -> usize {
 fn report_forced(counts: &[u64; COUNTS], n: usize) -> usize {
     fill(
         b"forced: sheets #\n- interpretations listed #\n- yes #\n- no #\n- refused 13 #\n",
+        counts,
+        n,
+    )
+}
+
+fn report_group(counts: &[u64; COUNTS], n: usize) -> usize {
+    fill(
+        b"group: a lower number #\n- the expression's own number #\n- refused 13 #\n",
         counts,
         n,
     )

@@ -1,15 +1,15 @@
-// The sheet of zero bytes, and random small sheets from a fixed seed. Find, judge, table of a name and forced are asked about each, and what they
-// give is compared with a listing of all interpretations (crate test_listing). The numbers printed are fixed by the seed; a difference is printed with its
+// The sheet of zero bytes, and random small sheets from a fixed seed. Find, judge, table of a name, forced and group are asked about each, and what
+// they give is compared with a listing of all interpretations (crate test_listing). The numbers printed are fixed by the seed; a difference is printed with its
 // sheet.
 mod finds; // find is asked
 
 use test_listing::answer;
 use test_listing::apart;
 use test_listing::shape;
-use test_questions::forces;
 use test_questions::judges;
 use test_questions::slices;
 use test_questions::tally;
+use test_questions::ties;
 use test_sheets::draw;
 use test_sheets::encode;
 use test_sheets::plan::PLAN;
@@ -52,6 +52,6 @@ fn compare(
     let structures = apart::structures(p);
     if structures <= shape::BUDGET {
         tally::add(counts, tally::STRUCTURES, structures);
-        forces::compare(p, sheet, counts);
+        ties::compare(p, sheet, counts);
     }
 }

@@ -17,6 +17,7 @@ use Rattle.judge.specs.Judge.{Says, judgement, stretchOf, tableOf, nowhere}
 use Rattle.judge.proofs.Judged.{judgement-says}
 use Rattle.forced.specs.Forcing.{forcing}
 use Rattle.forced.specs.declared.Forcing.the-variants as forcings
+use Rattle.group.proofs.Replies.{absent}
 use Rattle.answer.specs.Answer.{answer, solves}
 use Rattle.answer.proofs.Demand.{accepted-demand}
 use Rattle.worked.specs.Worked.{row15, Shown, Shows}
@@ -99,5 +100,6 @@ empty-sheet =
       fits = fits-exactly;
       others = others-refused;
       forced = no-expression;
+      group = λ e. absent [] empty nothing-read e (omega arith);
       table = no-name;
     }

@@ -14,6 +14,8 @@ use Rattle.tables.specs.declared.Judgement.the-variants as judgements
 use Rattle.judge.specs.Judge.{judgement, tableOf, nowhere}
 use Rattle.forced.specs.Forcing.{forcing}
 use Rattle.forced.specs.declared.Forcing.the-variants as forcings
+use Rattle.group.specs.Grouping.{grouping}
+use Rattle.group.specs.declared.Grouping.the-variants as groupings
 use Rattle.answer.specs.Answer.{Entry, answer}
 use Rattle.answer.specs.Demand.{Demand}
 use Rattle.finder.specs.Find.{finding, codesAfter, tablesAfter}
@@ -48,4 +50,5 @@ pub record EmptySheet : Type 0 where
   pub others : (t : List ℕ) → (t ≡ [] → ⊥) → judgement [] t ≡ judgements.Refused 12 0
   -- no expression and no name is there
   pub forced : (a b : ℕ) → forcing [] a b ≡ forcings.Refused 13 0
+  pub group : (e : ℕ) → grouping [] e ≡ groupings.Refused 13 0
   pub table : (t : List ℕ) (f : ℕ) → tableOf [] t f ≡ nowhere

@@ -34,7 +34,7 @@ returns c =
     let m = c .before .before .before .before in
     let swept = c .before .before .before .sweep .ensures in
     let equal = sym (c .before .before .weight .ensures) ∙ c .if1 .taken ∙ c .before .weight2 .ensures in
-    (m .loop .inv, swept .closed (sumTo-equal 128 _ _ (swept .step .lower) equal))
+    (step-more _ _ _ _ (m .loop .inv) (swept .step), swept .closed (sumTo-equal 128 _ _ (swept .step .lower) equal))
 
 -- a weight that is no larger, and not the same, is smaller
 falls : (x y a b : ℕ) → x ≡ a → y ≡ b → a ≤ b → (x ≡ y → ⊥) → a < b

@@ -2,7 +2,8 @@
 use borrow.Author.Needs.{needs}
 use native.Mathlib.Omega.{arith}
 use Rattle.prelude.specs.Lists.{at}
-use Rattle.forced.proofs.Replies.{refused-reply, parsed-closable, parsed-absent-first, parsed-absent-second, parsed-other-sorts, parsed-one-group, parsed-two-groups}
+use Rattle.group.proofs.Parsed.{parsed-closable}
+use Rattle.forced.proofs.Replies.{refused-reply, parsed-absent-first, parsed-absent-second, parsed-other-sorts, parsed-one-group, parsed-two-groups}
 use Rattle.forced.proofs.forced.Statement.{statement}
 use Rattle.forced.proofs.forced.Tie as tie
 

@@ -1,13 +1,56 @@
--- `replies::answer_asked` meets its contract.
+-- `replies::answer_asked` meets its contract: the verb is held against one word after the other.
 use native.Mathlib.Omega.{arith}
-use Prim.Native.Nat.{ℕ}
+use mathlib.Core.Bool.{Bool, false}
 use mathlib.Core.List.{List}
-use mathlib.Core.Path.{refl, sym, ap, _∙_}
+use mathlib.Core.Path.{_≡_, refl, sym, ap, _∙_}
+use Prim.Native.Nat.{ℕ}
 use Rattle.text.specs.Ascii.{ascii}
 use Rattle.prelude.specs.Tests.{sameList}
+use Rattle.words.specs.Words.{wordAt}
 use Rattle.replies.specs.Reply.{asked}
 use Rattle.replies.proofs.answer_asked.Statement.{statement}
 use Rattle.replies.proofs.answer_asked.Tie as tie
+
+-- what the test of the verb against a word says
+told : (w : List ℕ) {v f : List ℕ} {r b : Bool} → v ≡ f → r ≡ sameList v w → r ≡ b → sameList f w ≡ b
+told w verb test is = ap (λ (x : List ℕ). sameList x w) (sym verb) ∙ sym test ∙ is
+
+-- where the tests of the words before have failed
+abbrev line-of : tie.Else1 → List ℕ
+line-of e = e .before .before .before .before .before .before .args .line .now
+
+abbrev else1 : tie.Else2 → tie.Else1
+else1 e = e .before .before .before
+
+abbrev else2 : tie.Else3 → tie.Else2
+else2 e = e .before .before .before
+
+abbrev else3 : tie.Else4 → tie.Else3
+else3 e = e .before .before .before
+
+abbrev else4 : tie.Else5 → tie.Else4
+else4 e = e .before .before .before
+
+abbrev else5 : tie.Else6 → tie.Else5
+else5 e = e .before .before .before
+
+not-read : (e : tie.Else1) → sameList (wordAt (line-of e) 0) (ascii "read") ≡ false
+not-read e = told (ascii "read") (e .before .before .before .word .ensures .0) (e .before .same .ensures) (e .if1 .left)
+
+not-find : (e : tie.Else2) → sameList (wordAt (line-of (else1 e)) 0) (ascii "find") ≡ false
+not-find e = told (ascii "find") (else1 e .before .before .before .word .ensures .0) (e .before .same2 .ensures) (e .if2 .left)
+
+not-judge : (e : tie.Else3) → sameList (wordAt (line-of (else1 (else2 e))) 0) (ascii "judge") ≡ false
+not-judge e = told (ascii "judge") (else1 (else2 e) .before .before .before .word .ensures .0) (e .before .same3 .ensures) (e .if3 .left)
+
+not-forced : (e : tie.Else4) → sameList (wordAt (line-of (else1 (else2 (else3 e)))) 0) (ascii "forced") ≡ false
+not-forced e = told (ascii "forced") (else1 (else2 (else3 e)) .before .before .before .word .ensures .0) (e .before .same4 .ensures) (e .if4 .left)
+
+not-group : (e : tie.Else5) → sameList (wordAt (line-of (else1 (else2 (else3 (else4 e))))) 0) (ascii "group") ≡ false
+not-group e = told (ascii "group") (else1 (else2 (else3 (else4 e))) .before .before .before .word .ensures .0) (e .before .same5 .ensures) (e .if5 .left)
+
+not-table : (e : tie.Else6) → sameList (wordAt (line-of (else1 (else2 (else3 (else4 (else5 e)))))) 0) (ascii "table") ≡ false
+not-table e = told (ascii "table") (else1 (else2 (else3 (else4 (else5 e)))) .before .before .before .word .ensures .0) (e .before .same6 .ensures) (e .if6 .left)
 
 word-requires : tie.Need-word-requires
 word-requires c κs = tt
@@ -26,8 +69,9 @@ same-length c = c .before .before .read-question .kept .1 .0
 
 returns : tie.Need-returns
 unfolding asked
-returns c = rw ((ap (λ (v : List ℕ). sameList v (ascii "read")) (sym (c .before .before .before .before .before .before .before .word .ensures .0)) ∙ sym (c .before .before .before .before .before .same .ensures) ∙ c .before .before .before .before .if1 .taken))
-    (c .before .before .read-question .ensures)
+returns c =
+    let is = told (ascii "read") (c .before .before .before .before .before .before .before .word .ensures .0) (c .before .before .before .before .before .same .ensures) (c .before .before .before .before .if1 .taken) in
+    rw is (c .before .before .read-question .ensures)
 
 slice-aggregate-same-2 : tie.Need-slice-aggregate-same-2
 slice-aggregate-same-2 c = refl
@@ -43,11 +87,10 @@ same-length-2 c = c .before .before .find-question .kept .1 .0
 
 returns-2 : tie.Need-returns-2
 unfolding asked
-returns-2 c = rw (
-  (ap (λ (v : List ℕ). sameList v (ascii "read")) (sym (c .before .before .before .before .before .before .before .before .before .before .word .ensures .0)) ∙ sym (c .before .before .before .before .before .before .before .before .same .ensures) ∙ c .before .before .before .before .before .before .before .if1 .left),
-  (ap (λ (v : List ℕ). sameList v (ascii "find")) (sym (c .before .before .before .before .before .before .before .before .before .before .word .ensures .0)) ∙ sym (c .before .before .before .before .before .same2 .ensures) ∙ c .before .before .before .before .if2 .taken),
-)
-    (c .before .before .find-question .ensures)
+returns-2 c =
+    let e = c .before .before .before .before .before .before .before in
+    let is = told (ascii "find") (e .before .before .before .word .ensures .0) (c .before .before .before .before .before .same2 .ensures) (c .before .before .before .before .if2 .taken) in
+    rw (not-read e, is) (c .before .before .find-question .ensures)
 
 slice-aggregate-same-3 : tie.Need-slice-aggregate-same-3
 slice-aggregate-same-3 c = refl
@@ -63,12 +106,10 @@ same-length-3 c = c .before .before .judge-question .kept .1 .0
 
 returns-3 : tie.Need-returns-3
 unfolding asked
-returns-3 c = rw (
-  (ap (λ (v : List ℕ). sameList v (ascii "read")) (sym (c .before .before .before .before .before .before .before .before .before .before .before .before .before .word .ensures .0)) ∙ sym (c .before .before .before .before .before .before .before .before .before .before .before .same .ensures) ∙ c .before .before .before .before .before .before .before .before .before .before .if1 .left),
-  (ap (λ (v : List ℕ). sameList v (ascii "find")) (sym (c .before .before .before .before .before .before .before .before .before .before .before .before .before .word .ensures .0)) ∙ sym (c .before .before .before .before .before .before .before .before .same2 .ensures) ∙ c .before .before .before .before .before .before .before .if2 .left),
-  (ap (λ (v : List ℕ). sameList v (ascii "judge")) (sym (c .before .before .before .before .before .before .before .before .before .before .before .before .before .word .ensures .0)) ∙ sym (c .before .before .before .before .before .same3 .ensures) ∙ c .before .before .before .before .if3 .taken),
-)
-    (c .before .before .judge-question .ensures)
+returns-3 c =
+    let e = c .before .before .before .before .before .before .before in
+    let is = told (ascii "judge") (else1 e .before .before .before .word .ensures .0) (c .before .before .before .before .before .same3 .ensures) (c .before .before .before .before .if3 .taken) in
+    rw (not-read (else1 e), not-find e, is) (c .before .before .judge-question .ensures)
 
 slice-aggregate-same-4 : tie.Need-slice-aggregate-same-4
 slice-aggregate-same-4 c = refl
@@ -84,13 +125,10 @@ same-length-4 c = c .before .before .forced-question .kept .1 .0
 
 returns-4 : tie.Need-returns-4
 unfolding asked
-returns-4 c = rw (
-  (ap (λ (v : List ℕ). sameList v (ascii "read")) (sym (c .before .before .before .before .before .before .before .before .before .before .before .before .before .before .before .before .word .ensures .0)) ∙ sym (c .before .before .before .before .before .before .before .before .before .before .before .before .before .before .same .ensures) ∙ c .before .before .before .before .before .before .before .before .before .before .before .before .before .if1 .left),
-  (ap (λ (v : List ℕ). sameList v (ascii "find")) (sym (c .before .before .before .before .before .before .before .before .before .before .before .before .before .before .before .before .word .ensures .0)) ∙ sym (c .before .before .before .before .before .before .before .before .before .before .before .same2 .ensures) ∙ c .before .before .before .before .before .before .before .before .before .before .if2 .left),
-  (ap (λ (v : List ℕ). sameList v (ascii "judge")) (sym (c .before .before .before .before .before .before .before .before .before .before .before .before .before .before .before .before .word .ensures .0)) ∙ sym (c .before .before .before .before .before .before .before .before .same3 .ensures) ∙ c .before .before .before .before .before .before .before .if3 .left),
-  (ap (λ (v : List ℕ). sameList v (ascii "forced")) (sym (c .before .before .before .before .before .before .before .before .before .before .before .before .before .before .before .before .word .ensures .0)) ∙ sym (c .before .before .before .before .before .same4 .ensures) ∙ c .before .before .before .before .if4 .taken),
-)
-    (c .before .before .forced-question .ensures)
+returns-4 c =
+    let e = c .before .before .before .before .before .before .before in
+    let is = told (ascii "forced") (else1 (else2 e) .before .before .before .word .ensures .0) (c .before .before .before .before .before .same4 .ensures) (c .before .before .before .before .if4 .taken) in
+    rw (not-read (else1 (else2 e)), not-find (else2 e), not-judge e, is) (c .before .before .forced-question .ensures)
 
 slice-aggregate-same-5 : tie.Need-slice-aggregate-same-5
 slice-aggregate-same-5 c = refl
@@ -98,42 +136,52 @@ slice-aggregate-same-5 c = refl
 same-requires-5 : tie.Need-same-requires-5
 same-requires-5 c κs = tt
 
-table-question-requires : tie.Need-table-question-requires
-table-question-requires c κs = c .before .before .before .before .before .before .before .before .before .before .before .before .before .before .before .before .before .before .before .pre
+group-question-requires : tie.Need-group-question-requires
+group-question-requires c κs = c .before .before .before .before .before .before .before .before .before .before .before .before .before .before .before .before .before .before .before .pre
 
 same-length-5 : tie.Need-same-length-5
-same-length-5 c = c .before .before .table-question .kept .1 .0
+same-length-5 c = c .before .before .group-question .kept .1 .0
 
 returns-5 : tie.Need-returns-5
 unfolding asked
-returns-5 c = rw (
-  (ap (λ (v : List ℕ). sameList v (ascii "read")) (sym (c .before .before .before .before .before .before .before .before .before .before .before .before .before .before .before .before .before .before .before .word .ensures .0)) ∙ sym (c .before .before .before .before .before .before .before .before .before .before .before .before .before .before .before .before .before .same .ensures) ∙ c .before .before .before .before .before .before .before .before .before .before .before .before .before .before .before .before .if1 .left),
-  (ap (λ (v : List ℕ). sameList v (ascii "find")) (sym (c .before .before .before .before .before .before .before .before .before .before .before .before .before .before .before .before .before .before .before .word .ensures .0)) ∙ sym (c .before .before .before .before .before .before .before .before .before .before .before .before .before .before .same2 .ensures) ∙ c .before .before .before .before .before .before .before .before .before .before .before .before .before .if2 .left),
-  (ap (λ (v : List ℕ). sameList v (ascii "judge")) (sym (c .before .before .before .before .before .before .before .before .before .before .before .before .before .before .before .before .before .before .before .word .ensures .0)) ∙ sym (c .before .before .before .before .before .before .before .before .before .before .before .same3 .ensures) ∙ c .before .before .before .before .before .before .before .before .before .before .if3 .left),
-  (ap (λ (v : List ℕ). sameList v (ascii "forced")) (sym (c .before .before .before .before .before .before .before .before .before .before .before .before .before .before .before .before .before .before .before .word .ensures .0)) ∙ sym (c .before .before .before .before .before .before .before .before .same4 .ensures) ∙ c .before .before .before .before .before .before .before .if4 .left),
-  (ap (λ (v : List ℕ). sameList v (ascii "table")) (sym (c .before .before .before .before .before .before .before .before .before .before .before .before .before .before .before .before .before .before .before .word .ensures .0)) ∙ sym (c .before .before .before .before .before .same5 .ensures) ∙ c .before .before .before .before .if5 .taken),
-)
-    (c .before .before .table-question .ensures)
+returns-5 c =
+    let e = c .before .before .before .before .before .before .before in
+    let is = told (ascii "group") (else1 (else2 (else3 e)) .before .before .before .word .ensures .0) (c .before .before .before .before .before .same5 .ensures) (c .before .before .before .before .if5 .taken) in
+    rw (not-read (else1 (else2 (else3 e))), not-find (else2 (else3 e)), not-judge (else3 e), not-forced e, is) (c .before .before .group-question .ensures)
+
+slice-aggregate-same-6 : tie.Need-slice-aggregate-same-6
+slice-aggregate-same-6 c = refl
+
+same-requires-6 : tie.Need-same-requires-6
+same-requires-6 c κs = tt
+
+table-question-requires : tie.Need-table-question-requires
+table-question-requires c κs = c .before .before .before .before .before .before .before .before .before .before .before .before .before .before .before .before .before .before .before .before .before .before .pre
+
+same-length-6 : tie.Need-same-length-6
+same-length-6 c = c .before .before .table-question .kept .1 .0
+
+returns-6 : tie.Need-returns-6
+unfolding asked
+returns-6 c =
+    let e = c .before .before .before .before .before .before .before in
+    let is = told (ascii "table") (else1 (else2 (else3 (else4 e))) .before .before .before .word .ensures .0) (c .before .before .before .before .before .same6 .ensures) (c .before .before .before .before .if6 .taken) in
+    rw (not-read (else1 (else2 (else3 (else4 e)))), not-find (else2 (else3 (else4 e))), not-judge (else3 (else4 e)), not-forced (else4 e), not-group e, is) (c .before .before .table-question .ensures)
 
 slice-aggregate-put : tie.Need-slice-aggregate-put
 slice-aggregate-put c = refl
 
 put-requires : tie.Need-put-requires
-put-requires c κs = omega (arith, c .before .before .before .before .before .before .before .before .before .before .before .before .before .before .before .before .before .before .before .before .pre .1)
+put-requires c κs = omega (arith, c .before .before .before .before .before .before .before .before .before .before .before .before .before .before .before .before .before .before .before .before .before .before .before .pre .1)
 
-same-length-6 : tie.Need-same-length-6
-same-length-6 c = c .before .before .put .kept .0
+same-length-7 : tie.Need-same-length-7
+same-length-7 c = c .before .before .put .kept .0
 
-returns-6 : tie.Need-returns-6
+returns-7 : tie.Need-returns-7
 unfolding asked
-returns-6 c = rw (
-  (ap (λ (v : List ℕ). sameList v (ascii "read")) (sym (c .before .before .before .before .before .before .before .before .before .before .before .before .before .before .before .before .before .before .before .before .word .ensures .0)) ∙ sym (c .before .before .before .before .before .before .before .before .before .before .before .before .before .before .before .before .before .before .same .ensures) ∙ c .before .before .before .before .before .before .before .before .before .before .before .before .before .before .before .before .before .if1 .left),
-  (ap (λ (v : List ℕ). sameList v (ascii "find")) (sym (c .before .before .before .before .before .before .before .before .before .before .before .before .before .before .before .before .before .before .before .before .word .ensures .0)) ∙ sym (c .before .before .before .before .before .before .before .before .before .before .before .before .before .before .before .same2 .ensures) ∙ c .before .before .before .before .before .before .before .before .before .before .before .before .before .before .if2 .left),
-  (ap (λ (v : List ℕ). sameList v (ascii "judge")) (sym (c .before .before .before .before .before .before .before .before .before .before .before .before .before .before .before .before .before .before .before .before .word .ensures .0)) ∙ sym (c .before .before .before .before .before .before .before .before .before .before .before .before .same3 .ensures) ∙ c .before .before .before .before .before .before .before .before .before .before .before .if3 .left),
-  (ap (λ (v : List ℕ). sameList v (ascii "forced")) (sym (c .before .before .before .before .before .before .before .before .before .before .before .before .before .before .before .before .before .before .before .before .word .ensures .0)) ∙ sym (c .before .before .before .before .before .before .before .before .before .same4 .ensures) ∙ c .before .before .before .before .before .before .before .before .if4 .left),
-  (ap (λ (v : List ℕ). sameList v (ascii "table")) (sym (c .before .before .before .before .before .before .before .before .before .before .before .before .before .before .before .before .before .before .before .before .word .ensures .0)) ∙ sym (c .before .before .before .before .before .before .same5 .ensures) ∙ c .before .before .before .before .before .if5 .left),
-)
-    (c .before .before .put .ensures)
+returns-7 c =
+    let e = c .before .before .before .before .before in
+    rw (not-read (else1 (else2 (else3 (else4 (else5 e))))), not-find (else2 (else3 (else4 (else5 e)))), not-judge (else3 (else4 (else5 e))), not-forced (else4 (else5 e)), not-group (else5 e), not-table e) (c .before .before .put .ensures)
 
 pub answer-asked-spec : {M : Type 1} → statement M
 answer-asked-spec =
@@ -162,10 +210,15 @@ answer-asked-spec =
     returns-4
     slice-aggregate-same-5
     same-requires-5
-    table-question-requires
+    group-question-requires
     same-length-5
     returns-5
+    slice-aggregate-same-6
+    same-requires-6
+    table-question-requires
+    same-length-6
+    returns-6
     slice-aggregate-put
     put-requires
-    same-length-6
-    returns-6)
+    same-length-7
+    returns-7)

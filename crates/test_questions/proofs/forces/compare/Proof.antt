@@ -5,10 +5,10 @@ use Rattle.test_questions.proofs.forces.compare.Statement.{statement}
 use Rattle.test_questions.proofs.forces.compare.Tie as tie
 
 abbrev Inv-loop : tie.InvT-loop
-Inv-loop p sheet counts₀ pairs m n k₀ counts k = k ≤ n
+Inv-loop p pairs sheet counts₀ m n k₀ counts k = k ≤ n
 
 abbrev μ-loop : tie.MeasureT-loop
-μ-loop p sheet counts₀ pairs m n k₀ counts k = n - k
+μ-loop p pairs sheet counts₀ m n k₀ counts k = n - k
 
 pub compare-spec : {M : Type 1} → statement M
 compare-spec =
@@ -16,8 +16,6 @@ compare-spec =
     (tie.spec
     Inv-loop
     μ-loop
-    (λ c κs. search needs)
-    (λ c κs. search needs)
     (λ c κs. search needs)
     (λ c κs. search needs)
     (λ c. search needs)

@@ -1,0 +1,4 @@
+pub mod Parsed
+pub mod Replies
+pub mod NoPart
+pub mod Worked
