@@ -1,6 +1,6 @@
 -- Two structures that agree on a sheet's sorts and cells answer it alike.
 use Prim.Native.Nat.{ℕ, _<_}
-use mathlib.Core.Path.{_≡_, ap, sym, _∙_}
+use mathlib.Core.Path.{_≡_, ap, sym, _∙_, subst}
 use mathlib.Core.List.{List, [], _∷_, map}
 use lib.ListN.{length}
 use native.Mathlib.Omega.{arith}
@@ -15,7 +15,7 @@ use Rattle.logic.proofs.Codes.{reached-in-params, same-code, same-codes, satisf
 use Rattle.tables.specs.Layout.{decoded, encoded}
 use Rattle.tables.proofs.Tables.{encoded-size, decoded-cell}
 use Rattle.answer.specs.Answer.{Entry, sum}
-use Rattle.answer.specs.Demand.{Answers, Unreached}
+use Rattle.answer.specs.Demand.{Answers, Unreached, Unforced}
 
 -- N has M's sizes, and its tables hold what M's hold
 pub record Coincide (sh : Sheet) (M N : Structure) : Type 0 where
@@ -59,11 +59,23 @@ module _ (sh : Sheet) (w : WellFormed sh) (M N : Structure) (a : Coincide sh M N
   coincide-codes k = sym (same-codes M N sh w (reached k))
 
   -- a cell of N that no term reaches is such a cell of M, and holds the same
-  pub coincide-unreached : Interprets M sh → (f : ℕ) → f < length (sh .symbols) → (xs : List ℕ) → InSorts (N .size) (symbolAt sh f .params) xs → Unreached sh N f xs → Unreached sh M f xs × (N .table f xs ≡ M .table f xs)
+  coincide-unreached : Interprets M sh → (f : ℕ) → f < length (sh .symbols) → (xs : List ℕ) → InSorts (N .size) (symbolAt sh f .params) xs → Unreached sh N f xs → Unreached sh M f xs × (N .table f xs ≡ M .table f xs)
   coincide-unreached k f h xs i free = (
     λ j l p q. free j l p (ap (λ (cs : List ℕ). map (at cs) (termAt sh j .args)) (coincide-codes k) ∙ q),
     a .table f h xs (in-sorts-same (length (sh .bounds)) (M .size) (N .size) (a .size) (symbolAt sh f .params) xs (w .params f h) i),
   )
+
+  -- and so the unforced cells of N hold what they should where those of M do
+  pub coincide-unforced : Interprets M sh → Unforced sh M → Unforced sh N
+  coincide-unforced k u =
+      record {
+        kept = λ f h keep x l free.
+            let r = coincide-unreached k f h (x ∷ []) (subst (λ (ss : List ℕ). InSorts (N .size) ss (x ∷ [])) (sym keep) (l, tt)) free in
+            r .1 ∙ u .kept f h keep x (omega (arith, a .size (symbolAt sh f .result) (w .result f h))) (r .0);
+        zero = λ f h other xs i free.
+            let r = coincide-unreached k f h xs i free in
+            r .1 ∙ u .zero f h other xs (in-sorts-same (length (sh .bounds)) (M .size) (N .size) (a .size) (symbolAt sh f .params) xs (w .params f h) i) (r .0);
+      }
 
   pub coincide-answers : (e : Entry) → Answers sh e M → Answers sh e N
   coincide-answers e k =

@@ -3,22 +3,25 @@
 use Prim.Native.Nat.{ℕ, _≤_, _<_}
 use mathlib.Core.Path.{_≡_, refl, ap, sym, _∙_, subst}
 use mathlib.Core.Logic.{_⊎_, inl, inr}
-use mathlib.Core.List.{List, _∷_, map}
+use mathlib.Core.Bool.{Bool, true, false, true≢false}
+use mathlib.Core.List.{List, [], _∷_, map}
 use mathlib.Core.Option.{Option, none, some, Option·getD}
 use lib.ListN.{length}
 use native.Mathlib.Omega.{arith}
 use Rattle.logic.specs.Sheet.{Sheet, boundAt, symbolAt, termAt}
 use Rattle.logic.specs.WellFormed.{WellFormed}
 use Rattle.prelude.specs.Lists.{at, sumTo, firsts}
+use Rattle.prelude.specs.Tests.{sameList}
+use Rattle.prelude.proofs.Tests.{sameList-same, same-sameList}
 use Rattle.prelude.proofs.Lists.{map-each, firsts-at, firsts-same}
 use Rattle.logic.specs.Structure.{Structure, InSorts, Candidate, Satisfies, codes, code}
 use Rattle.logic.specs.Order.{Before, sizesOf, sumOf, Earlier}
 use Rattle.logic.proofs.Orders.{no-later-exactly}
-use Rattle.logic.proofs.Meaning.{code-below, code-congruent, codes-own, length-codes}
+use Rattle.logic.proofs.Meaning.{code-below, code-congruent, codes-own, length-codes, of-one-argument}
 use Rattle.layout.specs.Layout.{accepted, reading}
 use Rattle.layout.proofs.Answers.{accepted-well-formed}
-use Rattle.answer.specs.Answer.{Entry, entryOf, cellOf, reachedCells, cellAt, structureWith, structureOf, unforced, answer, sum}
-use Rattle.answer.specs.Demand.{Answers, Demand, Hopeless, Unreached, InTables}
+use Rattle.answer.specs.Answer.{Entry, entryOf, cellOf, reachedCells, cellAt, structureWith, structureOf, toItself, unforced, answer, sum}
+use Rattle.answer.specs.Demand.{Answers, Demand, Hopeless, Unreached, ToItself, InTables, StaysInRange}
 use Rattle.answer.proofs.Lists.{found-or-none}
 use Rattle.answer.proofs.Solving.{TermOf, term-of, own-cell, solution-same}
 use Rattle.answer.proofs.Listing.{Fits, Chosen, chosen, Ahead, Sooner, sooner-asym, none-fits, sum-firsts}
@@ -129,10 +132,39 @@ answers-with sh w e q u t =
           | inr l ↦ sooner-asym e (entryOf sh size c) l s
         ]
 
--- what the answer puts in an unreached cell is a code of its sort
-unforced-in-tables : (sh : Sheet) (e : Entry) → ((s : ℕ) → s < length (sh .bounds) → 1 ≤ at (e .sizes) s) → WellFormed sh → InTables sh (at (e .sizes)) (unforced sh e)
+-- the test tells whether a symbol takes one argument, of the sort of its result
+to-itself-test : (sh : Sheet) (f : ℕ) → ToItself sh f → toItself (symbolAt sh f) ≡ true
+to-itself-test sh f k = ap (λ (l : List ℕ). sameList l (symbolAt sh f .result ∷ [])) k ∙ same-sameList (symbolAt sh f .result ∷ [])
+
+pub to-itself-or-not : (sh : Sheet) (f : ℕ) → ToItself sh f ⊎ ((ToItself sh f → ⊥) × (toItself (symbolAt sh f) ≡ false))
+to-itself-or-not sh f = step (toItself (symbolAt sh f)) refl
+  where
+    step : (b : Bool) → toItself (symbolAt sh f) ≡ b → ToItself sh f ⊎ ((ToItself sh f → ⊥) × (toItself (symbolAt sh f) ≡ false))
+    step true q = inl (sameList-same (symbolAt sh f .params) (symbolAt sh f .result ∷ []) q)
+    step false q = inr (λ k. true≢false (sym (to-itself-test sh f k) ∙ q), q)
+
+-- the rule of the answer, in both its cases
+pub unforced-kept : (sh : Sheet) (e : Entry) (f x : ℕ) → ToItself sh f → unforced sh e f (x ∷ []) ≡ x
 unfolding unforced
-unforced-in-tables sh e h w f l cs i = h (symbolAt sh f .result) (w .result f l)
+unforced-kept sh e f x k = rw (to-itself-test sh f k) refl
+
+pub unforced-zero : (sh : Sheet) (e : Entry) (f : ℕ) (xs : List ℕ) → (ToItself sh f → ⊥) → unforced sh e f xs ≡ 0
+unfolding unforced
+unforced-zero sh e f xs other = elim (to-itself-or-not sh f) [ inl k ↦ absurd (other k) | inr r ↦ rw (r .1) refl ]
+
+-- the answer's sizes are at least 1
+pub answer-nonempty : (sh : Sheet) → WellFormed sh → (e : Entry) → answer sh ≡ some e → (s : ℕ) → s < length (sh .bounds) → 1 ≤ at (e .sizes) s
+answer-nonempty sh w e q s h = omega (arith, w .floor s h .0, chosen sh w e q .fits .bounded .floor s h)
+
+-- what the rule puts in a cell of the answer is a code of its sort
+pub unforced-in-range : (sh : Sheet) → WellFormed sh → StaysInRange unforced sh
+unforced-in-range sh w e q f l cs i =
+    elim (to-itself-or-not sh f) [
+      | inl k ↦
+          of-one-argument (at (e .sizes)) (symbolAt sh f .result) (symbolAt sh f .params) k (λ xs. unforced sh e f xs < at (e .sizes) (symbolAt sh f .result))
+          (λ x h. omega (arith, unforced-kept sh e f x k)) cs i
+      | inr r ↦ omega (arith, unforced-zero sh e f cs (r .0), answer-nonempty sh w e q (symbolAt sh f .result) (w .result f l))
+    ]
 
 pub demand : (sh : Sheet) → WellFormed sh → Demand sh
 demand sh w =
@@ -142,14 +174,15 @@ demand sh w =
         λ h. elim (found-or-none (answer sh)) [ inl q ↦ q | inr r ↦ absurd (hope h (r .0) (r .1)) ],
       );
       finds = answered;
-      unreached = λ e q. made-unreached sh w e (chosen sh w e q .fits) (unforced sh e);
+      unreached = λ e q.
+          record {
+            kept = λ f h k x l free. made-unreached sh w e (chosen sh w e q .fits) (unforced sh e) f (x ∷ []) free ∙ unforced-kept sh e f x k;
+            zero = λ f h other xs i free. made-unreached sh w e (chosen sh w e q .fits) (unforced sh e) f xs free ∙ unforced-zero sh e f xs other;
+          };
     }
   where
     answered : (e : Entry) → answer sh ≡ some e → Answers sh e (structureOf sh e)
-    answered e q =
-        let f : Fits sh (at (e .sizes)) (at (e .codes)) = chosen sh w e q .fits in
-        answers-with sh w e q (unforced sh e)
-        (unforced-in-tables sh e (λ s h. omega (arith, w .floor s h .0, f .bounded .floor s h)) w)
+    answered e q = answers-with sh w e q (unforced sh e) (unforced-in-range sh w e q)
 
     hope : Hopeless sh → (e : Entry) → answer sh ≡ some e → ⊥
     hope h e q = let a : Answers sh e (structureOf sh e) = answered e q in h (structureOf sh e) (a .candidate) (a .satisfies)

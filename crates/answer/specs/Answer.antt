@@ -6,7 +6,7 @@ use mathlib.Core.List.{List, [], _∷_, _++_, map}
 use mathlib.Core.Option.{Option, none, some, Option·getD}
 use lib.ListN.{length}
 use lib.Dec.{eqb}
-use Rattle.logic.specs.Sheet.{Sheet, Bound, Term, Literal, symbolAt}
+use Rattle.logic.specs.Sheet.{Sheet, Bound, Symbol, Term, Literal, symbolAt}
 use Rattle.prelude.specs.Tests.{sameList}
 use Rattle.prelude.specs.Lists.{at, sumTo, firsts, run}
 use Rattle.logic.specs.Structure.{Structure}
@@ -115,9 +115,18 @@ structureWith u sh e =
       table = λ f cs. Option·getD (cellAt (f ∷ cs) (reachedCells sh (e .codes))) (u f cs);
     }
 
--- what a cell that no term reaches holds: the table of symbol f at the codes cs
-unfoldable pub unforced : Sheet → Entry → ℕ → List ℕ → ℕ
-unforced sh e f cs = 0
+-- A rule for the cells that no term reaches: of a sheet and an entry, what the table of a symbol holds at the codes of its arguments.
+abbrev pub Rule : Type 0
+Rule = Sheet → Entry → ℕ → List ℕ → ℕ
+
+-- does a symbol take one argument, of the sort of its result?
+abbrev pub toItself : Symbol → Bool
+toItself f = sameList (f .params) (f .result ∷ [])
+
+-- what a cell that no term reaches holds, in the table of symbol f at the codes cs: where the symbol takes one argument, of the sort of its
+-- result, the argument's own code; in any other table 0
+unfoldable pub unforced : Rule
+unforced sh e f cs = cond (toItself (symbolAt sh f)) (at cs 0) 0
 
 -- the structure of the answer
 abbrev pub structureOf : Sheet → Entry → Structure

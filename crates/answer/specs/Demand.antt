@@ -1,15 +1,17 @@
--- Interface. Demand 3: what the answer by definition is among all structures. Proved for every accepted sheet: `accepted-demand` of
--- proofs/Demand.antt. What a call of find leaves behind follows in finder/specs/Promise.antt.
+-- Interface. Demand 3: what the answer by definition is among all structures, and that it does not depend on what the cells hold that no term
+-- reaches. Proved for every accepted sheet: `accepted-demand` of proofs/Demand.antt, `rules-agree` of proofs/Rules.antt. What a call of find
+-- leaves behind follows in finder/specs/Promise.antt.
 use Prim.Native.Nat.{ℕ, _<_}
 use mathlib.Core.Path.{_≡_}
 use mathlib.Core.Logic.{_↔_}
-use mathlib.Core.List.{List, map}
+use mathlib.Core.List.{List, [], _∷_, map}
 use mathlib.Core.Option.{none, some}
 use lib.ListN.{length}
 use Rattle.logic.specs.Sheet.{Sheet, symbolAt, termAt}
 use Rattle.logic.specs.Structure.{Structure, InSorts, Candidate, Satisfies, codes, code}
 use Rattle.logic.specs.Order.{sizesOf, sumOf, NoLater}
-use Rattle.answer.specs.Answer.{Entry, answer, sum, structureOf, unforced}
+use Rattle.prelude.specs.Lists.{at}
+use Rattle.answer.specs.Answer.{Entry, Rule, answer, sum, structureOf}
 
 -- The structure M answers the sheet with the sizes and codes of an entry: it is a candidate that satisfies every statement; sum, sizes
 -- and codes are its own; and every candidate that satisfies every statement has at least that sum; where its sum is the same, its sizes are
@@ -30,15 +32,43 @@ Hopeless sh = (M : Structure) → Candidate M sh → Satisfies M sh → ⊥
 abbrev pub Unreached : Sheet → Structure → ℕ → List ℕ → Type 0
 Unreached sh M f xs = (i : ℕ) → i < length (sh .terms) → termAt sh i .symbol ≡ f → map (code M sh) (termAt sh i .args) ≡ xs → ⊥
 
+-- the symbol f takes one argument, of the sort of its result
+abbrev pub ToItself : Sheet → ℕ → Type 0
+ToItself sh f = symbolAt sh f .params ≡ symbolAt sh f .result ∷ []
+
+-- What the unforced cells of M's tables hold, those that no term reaches: one of a symbol with one argument, of the sort of its result, holds
+-- its own argument's code; every other holds 0.
+pub record Unforced (sh : Sheet) (M : Structure) : Type 0 where
+  pub kept : (f : ℕ) → f < length (sh .symbols) → ToItself sh f → (x : ℕ) → x < M .size (symbolAt sh f .result) → Unreached sh M f (x ∷ []) → M .table f (x ∷ []) ≡ x
+  pub zero : (f : ℕ) → f < length (sh .symbols) → (ToItself sh f → ⊥) → (xs : List ℕ) → InSorts (M .size) (symbolAt sh f .params) xs → Unreached sh M f xs → M .table f xs ≡ 0
+
 pub record Demand (sh : Sheet) : Type 0 where
   -- no answer (refusal 11) exactly when no candidate satisfies every statement
   pub refuses : (answer sh ≡ none) ↔ Hopeless sh
   -- otherwise the answer's tables are such a candidate, the earliest
   pub finds : (e : Entry) → answer sh ≡ some e → Answers sh e (structureOf sh e)
-  -- and a cell that no term reaches is unforced
-  pub unreached : (e : Entry) → answer sh ≡ some e → (f : ℕ) (xs : List ℕ) → Unreached sh (structureOf sh e) f xs → structureOf sh e .table f xs ≡ unforced sh e f xs
+  -- and the unforced cells hold what they should
+  pub unreached : (e : Entry) → answer sh ≡ some e → Unforced sh (structureOf sh e)
+
+-- M answers the sheet with an entry by a rule: the cells that no term reaches hold what the rule says
+pub record AnswersBy (rule : Rule) (sh : Sheet) (e : Entry) (M : Structure) : Type 0 where
+  pub answers : Answers sh e M
+  pub unreached : (f : ℕ) → f < length (sh .symbols) → (xs : List ℕ) → InSorts (M .size) (symbolAt sh f .params) xs → Unreached sh M f xs → M .table f xs ≡ rule sh e f xs
+
+-- By two rules a sheet has the same answer but for the cells that no term reaches: so it is of any two rules in range (`rules-agree`).
+pub record SameAnswer (rule other : Rule) (sh : Sheet) : Type 0 where
+  -- by the one it has an answer exactly when it has one by the other, with the same sizes and codes, and so with the same sum
+  pub answered : (e : Entry) → ((M : Structure) × AnswersBy rule sh e M) ↔ ((M : Structure) × AnswersBy other sh e M)
+  -- and with no others
+  pub entry : (e d : Entry) (M N : Structure) → AnswersBy rule sh e M → AnswersBy other sh d N → e ≡ d
+  -- and a cell that a term reaches holds the same
+  pub reached : (e : Entry) (M N : Structure) → AnswersBy rule sh e M → AnswersBy other sh e N → (i : ℕ) → i < length (sh .terms) → M .table (termAt sh i .symbol) (map (at (e .codes)) (termAt sh i .args)) ≡ N .table (termAt sh i .symbol) (map (at (e .codes)) (termAt sh i .args))
 
 -- u gives codes of the result's sort for the cells of each table: all that a law asks of the cells that no term reaches
 abbrev pub InTables : Sheet → (ℕ → ℕ) → (ℕ → List ℕ → ℕ) → Type 0
 InTables sh size u =
     (f : ℕ) → f < length (sh .symbols) → (cs : List ℕ) → InSorts size (symbolAt sh f .params) cs → u f cs < size (symbolAt sh f .result)
+
+-- a rule stays in range: it gives the answer's cells codes of their sort
+abbrev pub StaysInRange : Rule → Sheet → Type 0
+StaysInRange rule sh = (e : Entry) → answer sh ≡ some e → InTables sh (at (e .sizes)) (rule sh e)

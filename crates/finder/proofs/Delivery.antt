@@ -1,7 +1,7 @@
 -- Demand 3 of the bytes: what a call gives back and leaves in the buffers is the answer of the sheet, and only that. The bytes in front are those of
 -- the answer's structure; decoded they give a structure alike (the round trip), and so all that holds of the answer holds of what was written.
 use Prim.Native.Nat.{ℕ, _≤_, _<_}
-use mathlib.Core.Path.{_≡_, refl, ap, ap₂, sym, _∙_}
+use mathlib.Core.Path.{_≡_, refl, ap, sym, _∙_}
 use mathlib.Core.Logic.{_⊎_, inl, inr}
 use mathlib.Core.List.{List}
 use mathlib.Core.Option.{Option, none, some}
@@ -9,6 +9,7 @@ use lib.ListN.{length, take, drop, length-append, List·getD-append}
 use native.Mathlib.Decide.{decLt}
 use native.Mathlib.Omega.{arith}
 use Rattle.logic.specs.Sheet.{Sheet}
+use Rattle.logic.specs.Order.{sizesOf}
 use Rattle.logic.specs.WellFormed.{WellFormed}
 use Rattle.prelude.specs.Lists.{at}
 use Rattle.logic.proofs.Meaning.{length-codes}
@@ -21,14 +22,16 @@ use Rattle.tables.specs.declared.Judgement.the-variants.{Fits}
 use Rattle.judge.proofs.Judged.{judged-says}
 use Rattle.answer.specs.Answer.{Entry, answer, sum, structureOf, unforced}
 use Rattle.finder.specs.Find.{turnedDown, answered, ceilings, answering, outcome, finding, codesAfter, tablesAfter}
-use Rattle.answer.specs.Demand.{Answers}
+use Rattle.answer.specs.Demand.{Answers, AnswersBy}
 use Rattle.finder.specs.Promise.{Delivered, Promised, codesWritten, tablesWritten}
 use Rattle.finder.specs.declared.Finding.the-variants.{Found, Refused}
 use Rattle.answer.proofs.Lists.{found-or-none}
 use Rattle.answer.proofs.Demand.{demand}
+use Rattle.answer.proofs.Rules.{by-unforced}
+use Rattle.answer.proofs.Listing.{sum-firsts}
 use Rattle.finder.proofs.Outcomes.{outcome-short, outcome-long}
 use Rattle.finder.proofs.Buffers.{Exit, exit, front-fronted, rest-fronted}
-use Rattle.answer.proofs.Coincide.{coincide-answers, coincide-unreached, round-trip}
+use Rattle.answer.proofs.Coincide.{coincide-answers, coincide-unforced, round-trip}
 
 module _ (sh : Sheet) (w : WellFormed sh) (s cs ts : List ℕ) (reads : reading s ≡ accepted sh) (codesFit : length (sh .terms) ≤ length cs) (tablesFit : extent sh (ceilings sh) ≤ length ts) where
   -- what the answer makes of the call
@@ -91,11 +94,7 @@ module _ (sh : Sheet) (w : WellFormed sh) (s cs ts : List ℕ) (reads : reading 
           sum = sym (g .sum);
           codes = told ∙ sym (g .codes);
           first = g .first;
-          unreached = λ f h xs i free.
-              let r = coincide-unreached sh w (structureOf sh e) (decoded sh bytes) (round-trip sh w (structureOf sh e)) (given .candidate .interprets) f h xs i free in
-              r .1
-              ∙ demand sh w .unreached e q f xs (r .0)
-              ∙ ap₂ (λ (sizes codes : List ℕ). unforced sh (record { sizes = sizes; codes = codes }) f xs) (sym (g .sizes)) (sym told);
+          unreached = coincide-unforced sh w (structureOf sh e) (decoded sh bytes) (round-trip sh w (structureOf sh e)) (given .candidate .interprets) (demand sh w .unreached e q);
         })
 
     behind-codes : drop (length (sh .terms)) (codesAfter s cs ts) ≡ drop (length (sh .terms)) cs
@@ -162,6 +161,20 @@ pub judged-fits : (s : List ℕ) (sh : Sheet) (n : ℕ) (C T : List ℕ) → rea
 unfolding judgement
 judged-fits s sh n C T q d =
     ap (λ (r : Reading). judgedOf r T) q ∙ judged-says sh T Fits .1 (d .laid, d .candidate, d .satisfies)
+
+-- delivered tables answer the sheet by the rule `unforced`, with their own sizes and the delivered codes
+pub delivered-by : (sh : Sheet) (n : ℕ) (C T : List ℕ) → Delivered sh n C T → AnswersBy unforced sh (record { sizes = sizesOf (decoded sh T) sh; codes = C }) (decoded sh T)
+delivered-by sh n C T d =
+    by-unforced sh (record { sizes = sizesOf (decoded sh T) sh; codes = C }) (decoded sh T)
+    (record {
+      candidate = d .candidate;
+      satisfies = d .satisfies;
+      sum = sym (sum-firsts (length (sh .bounds)) (decoded sh T .size));
+      sizes = refl;
+      codes = sym (d .codes);
+      first = d .first;
+    })
+    (d .unreached)
 
 -- something is found only where both buffers suffice
 module _ (s cs ts : List ℕ) (sh : Sheet) (n : ℕ) (reads : reading s ≡ accepted sh) (found : finding s (length cs) (length ts) ≡ Found n) where

@@ -1,23 +1,22 @@
 -- Interface. Demand 3 of the bytes: what a call of find gives back and leaves in the buffers. Proved for every accepted sheet:
 -- `accepted-promised` of proofs/Delivery.antt.
-use Prim.Native.Nat.{ℕ, _<_}
+use Prim.Native.Nat.{ℕ}
 use mathlib.Core.Path.{_≡_}
 use mathlib.Core.Logic.{_↔_, _⊎_}
 use mathlib.Core.List.{List}
 use lib.ListN.{length, take, drop}
-use Rattle.logic.specs.Sheet.{Sheet, symbolAt}
+use Rattle.logic.specs.Sheet.{Sheet}
 use Rattle.prelude.specs.Lists.{at}
-use Rattle.logic.specs.Structure.{Structure, InSorts, Candidate, Satisfies, codes}
-use Rattle.logic.specs.Order.{sizesOf, sumOf, NoLater}
+use Rattle.logic.specs.Structure.{Structure, Candidate, Satisfies, codes}
+use Rattle.logic.specs.Order.{sumOf, NoLater}
 use Rattle.tables.specs.Layout.{extent, decoded, WellLaid}
-use Rattle.answer.specs.Answer.{unforced}
-use Rattle.answer.specs.Demand.{Hopeless, Unreached}
+use Rattle.answer.specs.Demand.{Hopeless, Unforced}
 use Rattle.finder.specs.Find.{finding, codesAfter, tablesAfter}
 use Rattle.finder.specs.declared.Finding.the-variants.{Found, Refused}
 
 -- What `Demand` says of the answer, said of what a call leaves behind: the number it gives, the codes C and the tables T that it wrote. The tables are well laid, and
 -- the structure that they hold is a candidate that satisfies every statement; the sum and the codes are its own; every other such candidate
--- comes no earlier; and a cell that no term reaches is unforced.
+-- comes no earlier; and the unforced cells, those that no term reaches, hold what they should.
 pub record Delivered (sh : Sheet) (n : ℕ) (C T : List ℕ) : Type 0 where
   pub laid : WellLaid sh T
   pub candidate : Candidate (decoded sh T) sh
@@ -25,7 +24,7 @@ pub record Delivered (sh : Sheet) (n : ℕ) (C T : List ℕ) : Type 0 where
   pub sum : n ≡ sumOf (decoded sh T) sh
   pub codes : C ≡ codes (decoded sh T) sh
   pub first : (N : Structure) → Candidate N sh → Satisfies N sh → NoLater sh (decoded sh T) N
-  pub unreached : (f : ℕ) → f < length (sh .symbols) → (xs : List ℕ) → InSorts (at T) (symbolAt sh f .params) xs → Unreached sh (decoded sh T) f xs → decoded sh T .table f xs ≡ unforced sh (record { sizes = sizesOf (decoded sh T) sh; codes = C }) f xs
+  pub unreached : Unforced sh (decoded sh T)
 
 -- the codes and the tables in front of the two buffers
 abbrev pub codesWritten : Sheet → List ℕ → List ℕ

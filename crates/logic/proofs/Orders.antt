@@ -84,6 +84,17 @@ no-later-exactly sh M N = (never, always)
               (λ b. free (inr (sum-same (length (sh .bounds)) (N .size) (M .size) q, inr (q, b))));
         }
 
+-- two structures, each no later than the other, have the same sizes and the same codes
+pub no-later-both : (sh : Sheet) (M N : Structure) → NoLater sh M N → NoLater sh N M → (sizesOf M sh ≡ sizesOf N sh) × (codes M sh ≡ codes N sh)
+no-later-both sh M N m n =
+    let sums : sumOf N sh ≡ sumOf M sh = omega (arith, m .sum, n .sum) in
+    let sizes : sizesOf M sh ≡ sizesOf N sh = same (sizesOf M sh) (sizesOf N sh) (m .sizes sums) (n .sizes (sym sums)) in
+    (sizes, same (codes M sh) (codes N sh) (m .codes (sym sizes)) (n .codes sizes))
+  where
+    same : (xs ys : List ℕ) → (ys ≡ xs) ⊎ Before xs ys → (xs ≡ ys) ⊎ Before ys xs → xs ≡ ys
+    same xs ys p (inl e) = e
+    same xs ys p (inr b) = absurd (not-before xs ys p b)
+
 -- the place where xs has the smaller entry, none before it differing
 pub record Place (xs ys : List ℕ) : Type 0 where
   pub place : ℕ

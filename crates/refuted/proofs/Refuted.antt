@@ -1,21 +1,25 @@
 -- None of the wrong programs of specs/WrongPrograms.antt meets its contract. A worked sheet refutes most of them: what the contract says of it is not
--- what the wrong program does. An 11 before looking and an invented sum are refuted at every call, by demand 3.
+-- what the wrong program does. An 11 before looking, an invented sum and what is wrong in some cell are refuted at every call, by demand 3.
 use Prim.Native.Nat.{ℕ, _≤_, _<_}
 use native.Mathlib.Decide.{decLt}
 use native.Mathlib.Omega.{arith}
 use mathlib.Core.Path.{_≡_, refl, ap, sym, _∙_}
 use mathlib.Core.Logic.{inl, inr}
-use mathlib.Core.List.{List, [], _∷_}
+use mathlib.Core.List.{List, [], _∷_, map}
+use mathlib.Core.Option.{some}
 use lib.ListN.{length}
 use lib.Dec.{lit<, lit≤}
 use lib.Seq.{getD-take}
-use Rattle.logic.specs.Sheet.{Sheet}
+use Rattle.logic.specs.Sheet.{Sheet, termAt}
+use Rattle.logic.specs.Structure.{codes}
+use Rattle.logic.specs.WellFormed.{WellFormed}
+use Rattle.logic.proofs.Meaning.{code-is, of-one-argument}
 use Rattle.prelude.specs.Lists.{at, sumTo, fronted}
 use Rattle.prelude.proofs.Lists.{sumTo-same}
 use Rattle.layout.specs.Layout.{Reading, accepted, refused, reading, readFrom, cause}
 use Rattle.sheet.specs.Verdict.{verdict}
 use Rattle.sheet.specs.declared.Verdict.the-variants as verdicts
-use Rattle.layout.proofs.Answers.{refused-number}
+use Rattle.layout.proofs.Answers.{accepted-well-formed, refused-number}
 use Rattle.tables.specs.Layout.{extent}
 use Rattle.tables.specs.Tests.{wellLaid, inBounds}
 use Rattle.tables.specs.declared.Judgement.{Judgement}
@@ -27,9 +31,12 @@ use Rattle.group.specs.declared.Grouping.the-variants.{Group}
 use Rattle.group.proofs.Replies.{answer-exactly, number-named}
 use Rattle.group.proofs.NoPart.{answered-alike}
 use Rattle.group.proofs.Worked as group-worked
-use Rattle.finder.specs.Find.{turnedDown, ceilings, outcome, tablesAfter}
-use Rattle.answer.specs.Demand.{Hopeless}
-use Rattle.finder.specs.Promise.{tablesWritten}
+use Rattle.finder.specs.Find.{turnedDown, ceilings, outcome}
+use Rattle.answer.specs.Answer.{Entry, answer, unforced}
+use Rattle.answer.specs.Demand.{Hopeless, Unreached, ToItself}
+use Rattle.answer.proofs.Demand.{unforced-in-range}
+use Rattle.answer.proofs.Rules.{answer-by, rules-agree}
+use Rattle.finder.specs.Promise.{Delivered, codesWritten, tablesWritten}
 use Rattle.worked.specs.Worked.{Row, row1, row2, row5, row13, Shows}
 use Rattle.finder.specs.declared.Finding.{Finding}
 use Rattle.finder.specs.declared.Finding.the-variants.{Found, Refused}
@@ -37,8 +44,8 @@ use Rattle.worked.proofs.Worked.{sheetOf, worked}
 use Rattle.worked.proofs.EmptySheet.{empty-sheet}
 use Rattle.finder.proofs.Outcomes.{outcome-refused, outcome-short}
 use Rattle.finder.proofs.Buffers.{exit}
-use Rattle.finder.proofs.Delivery.{accepted-promised}
-use Rattle.refuted.specs.WrongPrograms.{FindProgram, MeetsFind, LetThrough, ElevenForAll, NeverLooks, ElevenBeforeLooking, SameTables, NoCodeWritten, NoTableWritten, OtherSizesZero, OtherCodesZero, InventedSum, ReadProgram, MeetsRead, RefusesEverySheet, RefusesNoBytes, JudgeProgram, MeetsJudge, FixedJudgement, PassesTablesForNoBytes, GroupProgram, MeetsGroup, GivesItself, GivesHighest, OneRound, CountsDiffer, Refuted}
+use Rattle.finder.proofs.Delivery.{accepted-promised, delivered-by}
+use Rattle.refuted.specs.WrongPrograms.{FindProgram, MeetsFind, LetThrough, ElevenForAll, NeverLooks, ElevenBeforeLooking, SameTables, NoCodeWritten, NoTableWritten, OtherSizesZero, OtherCodesZero, FoundCall, InventedSum, structureFrom, FreeCell, symbolOf, heldIn, KeepsAcross, KeepsOfTwo, Overwrites, StillZero, ReadProgram, MeetsRead, RefusesEverySheet, RefusesNoBytes, JudgeProgram, MeetsJudge, FixedJudgement, PassesTablesForNoBytes, GroupProgram, MeetsGroup, GivesItself, GivesHighest, OneRound, CountsDiffer, Refuted}
 
 -- ---- the worked sheets that refute
 one-field : Shows row1
@@ -167,23 +174,75 @@ module _ (p : FindProgram) (meets : MeetsFind p) where
             let r = room sh q (λ d. let z : _≡_ {A = ℕ} 10 11 = cc in omega arith) in
             (record { sheet = sh; reads = q; codesFit = r .0; tablesFit = r .1 }, accepted-promised s cs ts sh q (r .0) (r .1) .refuses .0 (sym (meets s cs ts .result) ∙ e))
 
-    -- the sum found is that of the sizes written
-    pub sum-written : (sh : Sheet) (n : ℕ) → reading s ≡ accepted sh → gives ≡ Found n → n ≡ sumTo (length (sh .bounds)) (at (p .tables s cs ts))
-    sum-written sh n reads found =
+    -- what is found is delivered
+    pub delivered : (sh : Sheet) (n : ℕ) → reading s ≡ accepted sh → gives ≡ Found n → Delivered sh n (codesWritten sh (p .codes s cs ts)) (tablesWritten sh (p .tables s cs ts))
+    delivered sh n reads found =
         let r = room sh reads (λ d. found-not-refused (sym found ∙ d)) in
-        let bytes = tablesAfter s cs ts in
-        accepted-promised s cs ts sh reads (r .0) (r .1) .delivers n (sym (meets s cs ts .result) ∙ found) .sum
-        ∙ sumTo-same (length (sh .bounds)) (at (tablesWritten sh bytes)) (at bytes) (λ i h. getD-take (extent sh (at bytes)) bytes i 0 (omega arith))
-        ∙ ap (λ (l : List ℕ). sumTo (length (sh .bounds)) (at l)) (sym (meets s cs ts .tables))
+        rw (meets s cs ts .codes, meets s cs ts .tables)
+        (accepted-promised s cs ts sh reads (r .0) (r .1) .delivers n (sym (meets s cs ts .result) ∙ found))
 
   not-eleven-before-looking : ElevenBeforeLooking p → ⊥
   not-eleven-before-looking wrong =
       let r = eleven-hopeless (wrong .sheet) (wrong .codes) (wrong .tables) (wrong .eleven) in
       wrong .unlooked (r .0) (r .1)
 
+  module _ (c : FoundCall p) where
+    formed : WellFormed (c .read)
+    formed = accepted-well-formed (c .sheet) (c .read) (c .reads)
+
+    given : Delivered (c .read) (c .sum) (codesWritten (c .read) (p .codes (c .sheet) (c .codes) (c .tables))) (tablesWritten (c .read) (p .tables (c .sheet) (c .codes) (c .tables)))
+    given = delivered (c .sheet) (c .codes) (c .tables) (c .read) (c .sum) (c .reads) (c .found)
+
+    -- the sum found is that of the sizes written
+    sum-written : c .sum ≡ sumTo (length (c .read .bounds)) (at (p .tables (c .sheet) (c .codes) (c .tables)))
+    sum-written =
+        let bytes = p .tables (c .sheet) (c .codes) (c .tables) in
+        given .sum
+        ∙ sumTo-same (length (c .read .bounds)) (at (tablesWritten (c .read) bytes)) (at bytes) (λ i h. getD-take (extent (c .read) (at bytes)) bytes i 0 (omega arith))
+
+    -- the codes of the answer are those of the tables written, so that an expression's cell holds its code
+    code-written : (e : Entry) → answer (c .read) ≡ some e → (i : ℕ) → i < length (c .read .terms) → structureFrom p c .table (termAt (c .read) i .symbol) (map (at (e .codes)) (termAt (c .read) i .args)) ≡ at (e .codes) i
+    code-written e q i h = rw same (sym (code-is (structureFrom p c) (c .read) formed i h))
+      where
+        same : e .codes ≡ codes (structureFrom p c) (c .read)
+        same =
+            let range = unforced-in-range (c .read) formed in
+            let a = answer-by (c .read) formed unforced range e .0 q in
+            let by = delivered-by (c .read) (c .sum) _ _ given in
+            ap (λ (d : Entry). d .codes) (rules-agree (c .sheet) (c .read) (c .reads) unforced unforced range range .entry e _ (a .0) (structureFrom p c) (a .1) by)
+            ∙ given .codes
+
   not-invented-sum : InventedSum p → ⊥
-  not-invented-sum wrong =
-      wrong .invented (sum-written (wrong .sheet) (wrong .codes) (wrong .tables) (wrong .read) (wrong .sum) (wrong .reads) (wrong .found))
+  not-invented-sum wrong = wrong .1 (sum-written (wrong .0))
+
+  -- what demand 3 says of a cell that no expression reaches
+  module _ (c : FreeCell p) where
+    zero-elsewhere : (ToItself (c .call .read) (c .symbol) → ⊥) → heldIn p c ≡ 0
+    zero-elsewhere other = given (c .call) .unreached .zero (c .symbol) (c .there) other (c .args) (c .inside) (c .free)
+
+    own-kept : ToItself (c .call .read) (c .symbol) → heldIn p c ≡ at (c .args) 0
+    own-kept itself =
+        of-one-argument (structureFrom p (c .call) .size) (symbolOf p c .result) (symbolOf p c .params) itself
+        (λ xs. Unreached (c .call .read) (structureFrom p (c .call)) (c .symbol) xs → structureFrom p (c .call) .table (c .symbol) xs ≡ at xs 0)
+        (λ x l free. given (c .call) .unreached .kept (c .symbol) (c .there) itself x l free) (c .args) (c .inside) (c .free)
+
+  not-keeps-across : KeepsAcross p → ⊥
+  not-keeps-across wrong =
+      let c = wrong .0 in
+      wrong .5 (zero-elsewhere c (λ itself. wrong .3 (heads (wrong .1) (symbolOf p c .result) (sym (wrong .2) ∙ itself))))
+    where
+      heads : (s r : ℕ) → s ∷ [] ≡ r ∷ [] → s ≡ r
+      heads s r e = cc
+
+  not-keeps-of-two : KeepsOfTwo p → ⊥
+  not-keeps-of-two wrong =
+      wrong .3 (zero-elsewhere (wrong .0) (λ itself. let one = ap length itself in omega (arith, wrong .1)))
+
+  not-overwrites : Overwrites p → ⊥
+  not-overwrites wrong = wrong .5 (code-written (wrong .0) (wrong .1) (wrong .2) (wrong .3) (wrong .4))
+
+  not-still-zero : StillZero p → ⊥
+  not-still-zero wrong = wrong .3 (sym (own-kept (wrong .0) (wrong .1)) ∙ wrong .2)
 
 -- ---- read
 row1-accepted : verdict (reading (row1 .sheet)) ≡ verdicts.Accepted
@@ -271,6 +330,10 @@ refuted =
       other-sizes-zero = not-other-sizes-zero;
       other-codes-zero = not-other-codes-zero;
       invented-sum = not-invented-sum;
+      keeps-across = not-keeps-across;
+      keeps-of-two = not-keeps-of-two;
+      overwrites = not-overwrites;
+      still-zero = not-still-zero;
       refuses-every-sheet = not-refuses-every-sheet;
       refuses-no-bytes = not-refuses-no-bytes;
       fixed-judgement = not-fixed-judgement;

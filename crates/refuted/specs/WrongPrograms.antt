@@ -1,18 +1,21 @@
--- The interface: the wrong programs of docs/CONTRACTS.md, "Contracts owed", c, in that order, and those of the requests: about a sheet of zero bytes,
--- and about group. A program is what it gives back, and leaves in the buffers, for every call; to meet a contract is to do so at every call. `refuted`
--- of proofs/Refuted.antt: none of these meets the contract of its question.
+-- The interface: the wrong programs of docs/CONTRACTS.md, "Contracts owed", c, in that order, and those of the requests: about a sheet of zero bytes, about
+-- group, and about the cells that no expression reaches. A program is what it gives back, and leaves in the buffers, for every call; to meet a contract is to do
+-- so at every call. `refuted` of proofs/Refuted.antt: none of these meets the contract of its question.
 use Prim.Native.Nat.{ℕ, _≤_, _<_}
 use mathlib.Core.Path.{_≡_}
 use mathlib.Core.Bool.{true}
-use mathlib.Core.List.{List, []}
+use mathlib.Core.Logic.{_⊎_}
+use mathlib.Core.List.{List, [], _∷_, map}
+use mathlib.Core.Option.{some}
 use lib.ListN.{length}
-use Rattle.logic.specs.Sheet.{Sheet, sortAt}
+use Rattle.logic.specs.Sheet.{Sheet, Symbol, symbolAt, termAt, sortAt}
+use Rattle.logic.specs.Structure.{Structure, InSorts}
 use Rattle.prelude.specs.Lists.{at, sumTo}
 use Rattle.layout.specs.Layout.{accepted, reading}
 use Rattle.sheet.specs.Verdict.{verdict}
 use Rattle.sheet.specs.declared.Verdict.{Verdict}
 use Rattle.sheet.specs.declared.Verdict.the-variants as verdicts
-use Rattle.tables.specs.Layout.{extent, WellLaid}
+use Rattle.tables.specs.Layout.{extent, decoded, WellLaid}
 use Rattle.tables.specs.declared.Judgement.{Judgement}
 use Rattle.tables.specs.declared.Judgement.the-variants.{Fits}
 use Rattle.judge.specs.Judge.{judgement}
@@ -24,7 +27,9 @@ use Rattle.group.specs.Grouping.{grouping}
 use Rattle.group.specs.declared.Grouping.{Grouping}
 use Rattle.group.specs.declared.Grouping.the-variants.{Group}
 use Rattle.finder.specs.Find.{ceilings, Finds}
-use Rattle.answer.specs.Demand.{Hopeless}
+use Rattle.finder.specs.Promise.{tablesWritten}
+use Rattle.answer.specs.Answer.{Entry, answer}
+use Rattle.answer.specs.Demand.{Hopeless, Unreached, ToItself}
 use Rattle.finder.specs.declared.Finding.{Finding}
 use Rattle.finder.specs.declared.Finding.the-variants.{Found, Refused}
 
@@ -81,8 +86,8 @@ OtherSizesZero p = (s cs ts : List ℕ) (sh : Sheet) (n : ℕ) → reading s ≡
 abbrev pub OtherCodesZero : FindProgram → Type 0
 OtherCodesZero p = (s cs ts : List ℕ) (sh : Sheet) (n : ℕ) → reading s ≡ accepted sh → p .result s cs ts ≡ Found n → (i : ℕ) → i < length (sh .terms) → 1 ≤ sortAt sh i → at (p .codes s cs ts) i ≡ 0
 
--- reports an invented sum to some call: one that is not that of the sizes written
-pub record InventedSum (p : FindProgram) : Type 0 where
+-- a call to which something is found: the sheet's bytes and both buffers, the sheet read and the sum
+pub record FoundCall (p : FindProgram) : Type 0 where
   pub sheet : List ℕ
   pub codes : List ℕ
   pub tables : List ℕ
@@ -90,7 +95,47 @@ pub record InventedSum (p : FindProgram) : Type 0 where
   pub reads : reading sheet ≡ accepted read
   pub sum : ℕ
   pub found : p .result sheet codes tables ≡ Found sum
-  pub invented : sum ≡ sumTo (length (read .bounds)) (at (p .tables sheet codes tables)) → ⊥
+
+-- reports an invented sum to some call: one that is not that of the sizes written
+abbrev pub InventedSum : FindProgram → Type 0
+InventedSum p = (c : FoundCall p) × (c .sum ≡ sumTo (length (c .read .bounds)) (at (p .tables (c .sheet) (c .codes) (c .tables))) → ⊥)
+
+-- ---- FIND (request (c))
+-- the tables that a call wrote, as a structure
+abbrev pub structureFrom : (p : FindProgram) → FoundCall p → Structure
+structureFrom p c = decoded (c .read) (tablesWritten (c .read) (p .tables (c .sheet) (c .codes) (c .tables)))
+
+-- a cell of these tables that no expression reaches
+pub record FreeCell (p : FindProgram) : Type 0 where
+  pub call : FoundCall p
+  pub symbol : ℕ
+  pub there : symbol < length (call .read .symbols)
+  pub args : List ℕ
+  pub inside : InSorts (structureFrom p call .size) (symbolAt (call .read) symbol .params) args
+  pub free : Unreached (call .read) (structureFrom p call) symbol args
+
+-- its symbol, and the code that it holds
+abbrev pub symbolOf : (p : FindProgram) → FreeCell p → Symbol
+symbolOf p c = symbolAt (c .call .read) (c .symbol)
+
+abbrev pub heldIn : (p : FindProgram) → FreeCell p → ℕ
+heldIn p c = structureFrom p (c .call) .table (c .symbol) (c .args)
+
+-- keeps the code in a table from one field to another: some cell there that no expression reaches holds its own argument's code, and that is not 0
+abbrev pub KeepsAcross : FindProgram → Type 0
+KeepsAcross p = (c : FreeCell p) × (s : ℕ) × (symbolOf p c .params ≡ s ∷ []) × (s ≡ symbolOf p c .result → ⊥) × (heldIn p c ≡ at (c .args) 0) × (heldIn p c ≡ 0 → ⊥)
+
+-- keeps it in two-argument tables: some cell there that no expression reaches holds the code of one of its arguments, and that is not 0
+abbrev pub KeepsOfTwo : FindProgram → Type 0
+KeepsOfTwo p = (c : FreeCell p) × (length (symbolOf p c .params) ≡ 2) × ((heldIn p c ≡ at (c .args) 0) ⊎ (heldIn p c ≡ at (c .args) 1)) × (heldIn p c ≡ 0 → ⊥)
+
+-- overwrites a reached cell: some call leaves a cell that an expression reaches with another code than the expression has in the answer
+abbrev pub Overwrites : FindProgram → Type 0
+Overwrites p = (c : FoundCall p) × (e : Entry) × (answer (c .read) ≡ some e) × (i : ℕ) × (i < length (c .read .terms)) × (structureFrom p c .table (termAt (c .read) i .symbol) (map (at (e .codes)) (termAt (c .read) i .args)) ≡ at (e .codes) i → ⊥)
+
+-- still writes 0: some cell that no expression reaches, of a name with one argument, of the result's field, holds 0, and that is not its own argument's code
+abbrev pub StillZero : FindProgram → Type 0
+StillZero p = (c : FreeCell p) × ToItself (c .call .read) (c .symbol) × (heldIn p c ≡ 0) × (at (c .args) 0 ≡ 0 → ⊥)
 
 -- ---- READ (demand 2)
 abbrev pub ReadProgram : Type 0
@@ -175,6 +220,10 @@ pub record Refuted : Type 0 where
   pub other-sizes-zero : (p : FindProgram) → MeetsFind p → OtherSizesZero p → ⊥
   pub other-codes-zero : (p : FindProgram) → MeetsFind p → OtherCodesZero p → ⊥
   pub invented-sum : (p : FindProgram) → MeetsFind p → InventedSum p → ⊥
+  pub keeps-across : (p : FindProgram) → MeetsFind p → KeepsAcross p → ⊥
+  pub keeps-of-two : (p : FindProgram) → MeetsFind p → KeepsOfTwo p → ⊥
+  pub overwrites : (p : FindProgram) → MeetsFind p → Overwrites p → ⊥
+  pub still-zero : (p : FindProgram) → MeetsFind p → StillZero p → ⊥
   pub refuses-every-sheet : (p : ReadProgram) → MeetsRead p → RefusesEverySheet p → ⊥
   pub refuses-no-bytes : (p : ReadProgram) → MeetsRead p → RefusesNoBytes p → ⊥
   pub fixed-judgement : (p : JudgeProgram) (r : Judgement) → MeetsJudge p → FixedJudgement p r → ⊥

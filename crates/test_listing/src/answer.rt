@@ -1,5 +1,5 @@
 // The answer of a drawn sheet by its listing: of all candidates that meet every literal the one with the first key, and of those
-// with that key the first tables.
+// with that key the first tables, in which a cell that no term reaches holds 0.
 use crate::keys::KEY;
 use crate::keys::first_broken;
 use crate::keys::key_of;

@@ -2,8 +2,9 @@
 //
 // The listing shares no code with the entry points, and is not derived from their definitions. All functions are proved safe and ending; that
 // the listing is right rests on its being plain.
-pub mod answer; // the answer of a sheet: the first candidate
+pub mod answer; // the answer of a sheet: the first candidate, before its unforced cells are filled
 pub mod apart; // which terms an interpretation tells apart
 pub mod keys; // what terms and literals say under one interpretation
 pub mod ranges; // lists of sizes
 pub mod shape; // the tables of interpretations, and an odometer over them
+pub mod unforced; // the cells of the answer that no term reaches

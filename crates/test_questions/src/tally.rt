@@ -8,7 +8,7 @@ use test_sheets::plan::TERMS;
 use test_sheets::plan::count;
 use test_sheets::plan::record_at;
 
-pub const COUNTS: usize = 26;
+pub const COUNTS: usize = 27;
 
 // The counts, in the order of the report.
 pub const SHEETS: usize = 0;
@@ -33,35 +33,37 @@ pub const NO_ANSWER: usize = 9;
 
 pub const SHORT: usize = 10;
 
-pub const FITS: usize = 11;
+pub const KEPT: usize = 11;
 
-pub const OUT_OF_BOUNDS: usize = 12;
+pub const FITS: usize = 12;
 
-pub const BROKEN: usize = 13;
+pub const OUT_OF_BOUNDS: usize = 13;
 
-pub const DAMAGED: usize = 14;
+pub const BROKEN: usize = 14;
 
-pub const STRETCH: usize = 15;
+pub const DAMAGED: usize = 15;
 
-pub const EMPTY: usize = 16;
+pub const STRETCH: usize = 16;
 
-pub const SETTLED: usize = 17;
+pub const EMPTY: usize = 17;
 
-pub const STRUCTURES: usize = 18;
+pub const SETTLED: usize = 18;
 
-pub const FORCED: usize = 19;
+pub const STRUCTURES: usize = 19;
 
-pub const FREE: usize = 20;
+pub const FORCED: usize = 20;
 
-pub const NO_PAIR: usize = 21;
+pub const FREE: usize = 21;
 
-pub const LOWER: usize = 22;
+pub const NO_PAIR: usize = 22;
 
-pub const OWN: usize = 23;
+pub const LOWER: usize = 23;
 
-pub const NO_TERM: usize = 24;
+pub const OWN: usize = 24;
 
-pub const DIFFERENCES: usize = 25;
+pub const NO_TERM: usize = 25;
+
+pub const DIFFERENCES: usize = 26;
 
 pub fn add(counts: &mut [u64; COUNTS], at: usize, n: usize) {
     let k = at % COUNTS;
@@ -121,7 +123,7 @@ fn report_sheets(counts: &[u64; COUNTS], n: usize) -> usize {
 
 fn report_find(counts: &[u64; COUNTS], n: usize) -> usize {
     fill(
-        b"find and judge: sheets #\n- interpretations listed #\n- found #\n- refused 11 #\n- refused 10, a buffer one byte short #\n",
+        b"find and judge: sheets #\n- interpretations listed #\n- found #\n- refused 11 #\n- refused 10, a buffer one byte short #\n- unforced cells that keep a code other than 0 #\n",
         counts,
         n,
     )

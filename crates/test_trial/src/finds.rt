@@ -1,14 +1,16 @@
-// Find against the first candidate of the listing, byte for byte, with buffers that are roomy, exact and too short.
+// Find against the first candidate of the listing, its unforced cells filled by the rule, byte for byte, with buffers that are roomy, exact and too short.
 use finder::Finding;
 use test_listing::answer::NOTHING;
 use test_listing::answer::list;
 use test_listing::keys::KEY;
 use test_listing::shape::ROOM;
 use test_listing::shape::length;
+use test_listing::unforced::keep_codes;
 use test_questions::slices::first;
 use test_questions::slices::rest;
 use test_questions::tally::COUNTS;
 use test_questions::tally::FOUND;
+use test_questions::tally::KEPT;
 use test_questions::tally::LISTED;
 use test_questions::tally::NO_ANSWER;
 use test_questions::tally::SHORT;
@@ -46,12 +48,14 @@ struct Lent {
 pub(crate) fn compare(p: [u8; PLAN], sheet: &[u8], counts: &mut [u64; COUNTS]) {
     let mut best = [0u8; ROOM];
     let key = list(p, &mut best);
+    let kept = keep_codes(p, key, &mut best);
     let exact = Lent {
         codes: count(p, TERMS),
         tables: length(p, ceilings(p)),
         fill: 90,
     };
     add(counts, LISTED, 1);
+    add(counts, KEPT, kept);
     answered(sheet, key, &best, wanted(p, key), exact, counts);
     too_short(sheet, key, &best, exact, counts);
 }

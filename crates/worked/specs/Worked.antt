@@ -120,7 +120,7 @@ row9 =
       tableBytes = 7;
       result = Found 3;
       codes = 0 ∷ 1 ∷ 2 ∷ 0 ∷ 1 ∷ [];
-      tables = (3 ∷ []) ++ (0 ∷ []) ++ (1 ∷ []) ++ (2 ∷ []) ++ (0 ∷ 1 ∷ 0 ∷ []);
+      tables = (3 ∷ []) ++ (0 ∷ []) ++ (1 ∷ []) ++ (2 ∷ []) ++ (0 ∷ 1 ∷ 2 ∷ []);
     }
 
 abbrev pub row10 : Row
@@ -152,7 +152,7 @@ row13 =
     }
 
 abbrev pub row14 : Row
-row14 = record { sheet = field 2 2 ++ event ++ total 16; codeBytes = 0; tableBytes = 3; result = Found 2; codes = []; tables = (2 ∷ []) ++ (0 ∷ 0 ∷ []) }
+row14 = record { sheet = field 2 2 ++ event ++ total 16; codeBytes = 0; tableBytes = 3; result = Found 2; codes = []; tables = (2 ∷ []) ++ (0 ∷ 1 ∷ []) }
 
 -- a sheet of zero bytes: no field has a size, and no buffer is asked for
 abbrev pub row15 : Row
@@ -182,7 +182,7 @@ printed =
       tableBytes = 7;
       result = Found 3;
       codes = 0 ∷ 1 ∷ 2 ∷ 0 ∷ 1 ∷ [];
-      tables = (3 ∷ []) ++ (0 ∷ []) ++ (1 ∷ []) ++ (2 ∷ []) ++ (0 ∷ 1 ∷ 0 ∷ []);
+      tables = (3 ∷ []) ++ (0 ∷ []) ++ (1 ∷ []) ++ (2 ∷ []) ++ (0 ∷ 1 ∷ 2 ∷ []);
     }
 
 abbrev pub rows : List Row

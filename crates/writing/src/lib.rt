@@ -1,6 +1,7 @@
 // Writes an answer, given by its sizes and codes: each symbol's table, the cells that no term reaches among them, in front of the caller's buffers.
 use layout::Parsed;
 use prelude::BYTE_VALUES;
+use prelude::MISSING;
 use prelude::MOST_CODES;
 use prelude::MOST_SORTS;
 use prelude::wide;
@@ -35,11 +36,21 @@ pub fn write_answer(
     tables::sum_of(sizes, sorts)
 }
 
-// What a cell that no term reaches holds, in this row and column of a symbol's table. This is the one place that gives such a cell its code.
+// What a cell that no term reaches holds, in this row and column of a symbol's table: where the symbol takes one argument, of the sort of its result, the
+// argument's own code, and else 0. This is the one place that gives such a cell its code.
 fn unforced(p: Parsed, codes: [u8; BYTE_VALUES], symbol: usize, row: usize, col: usize) -> u8
     requires { ⌜ (symbol < mostSymbols) × (row < mostCodes) × (col < mostCodes) ⌝ }
     ensures { λ r. ⌜ ((sh : Sheet) (size : ℕ → ℕ) → Packs sh p → symbol < length (sh .symbols) → r ≡ unforcedAt sh size (at codes) symbol row col) ⌝ }
 {
+    let own = row as u8;
+    let result = p.result[symbol];
+    let first = p.param0[symbol];
+    let second = p.param1[symbol];
+    if second == MISSING {
+        if first == result {
+            return own;
+        }
+    }
     0u8
 }
 
