@@ -65,7 +65,7 @@ module _ (sh : Sheet) (w : WellFormed sh) (M N : Structure) (a : Coincide sh M N
     a .table f h xs (in-sorts-same (length (sh .bounds)) (M .size) (N .size) (a .size) (symbolAt sh f .params) xs (w .params f h) i),
   )
 
-  -- and so the unforced cells of N hold what they should where those of M do
+  -- and so the unforced cells of N hold what `Unforced` says where those of M do
   pub coincide-unforced : Interprets M sh → Unforced sh M → Unforced sh N
   coincide-unforced k u =
       record {

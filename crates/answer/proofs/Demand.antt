@@ -35,6 +35,10 @@ structure-fits sh w M k s =
       solution = record { congruent = code-congruent M sh w; meets = s };
     }
 
+-- sizes that fit are at least 1
+pub fits-nonempty : (sh : Sheet) → WellFormed sh → (size c : ℕ → ℕ) → Fits sh size c → (s : ℕ) → s < length (sh .bounds) → 1 ≤ size s
+fits-nonempty sh w size c f s h = omega (arith, w .floor s h .0, f .bounded .floor s h)
+
 -- the tables made from what fits
 module _ (sh : Sheet) (w : WellFormed sh) (e : Entry) (f : Fits sh (at (e .sizes)) (at (e .codes))) (u : ℕ → List ℕ → ℕ) where
   abbrev made : Structure
@@ -77,7 +81,7 @@ module _ (sh : Sheet) (w : WellFormed sh) (e : Entry) (f : Fits sh (at (e .sizes
   made-candidate t =
       record {
         interprets = record {
-          nonempty = λ s h. omega (arith, w .floor s h .0, f .bounded .floor s h);
+          nonempty = fits-nonempty sh w (at (e .sizes)) (at (e .codes)) f;
           complete = λ g h cs l. below t g h cs l (cellAt (g ∷ cs) (reachedCells sh (e .codes))) refl;
         };
         bounded = f .bounded;
@@ -152,10 +156,6 @@ pub unforced-zero : (sh : Sheet) (e : Entry) (f : ℕ) (xs : List ℕ) → (ToIt
 unfolding unforced
 unforced-zero sh e f xs other = elim (to-itself-or-not sh f) [ inl k ↦ absurd (other k) | inr r ↦ rw (r .1) refl ]
 
--- the answer's sizes are at least 1
-pub answer-nonempty : (sh : Sheet) → WellFormed sh → (e : Entry) → answer sh ≡ some e → (s : ℕ) → s < length (sh .bounds) → 1 ≤ at (e .sizes) s
-answer-nonempty sh w e q s h = omega (arith, w .floor s h .0, chosen sh w e q .fits .bounded .floor s h)
-
 -- what the rule puts in a cell of the answer is a code of its sort
 pub unforced-in-range : (sh : Sheet) → WellFormed sh → StaysInRange unforced sh
 unforced-in-range sh w e q f l cs i =
@@ -163,7 +163,7 @@ unforced-in-range sh w e q f l cs i =
       | inl k ↦
           of-one-argument (at (e .sizes)) (symbolAt sh f .result) (symbolAt sh f .params) k (λ xs. unforced sh e f xs < at (e .sizes) (symbolAt sh f .result))
           (λ x h. omega (arith, unforced-kept sh e f x k)) cs i
-      | inr r ↦ omega (arith, unforced-zero sh e f cs (r .0), answer-nonempty sh w e q (symbolAt sh f .result) (w .result f l))
+      | inr r ↦ omega (arith, unforced-zero sh e f cs (r .0), fits-nonempty sh w (at (e .sizes)) (at (e .codes)) (chosen sh w e q .fits) (symbolAt sh f .result) (w .result f l))
     ]
 
 pub demand : (sh : Sheet) → WellFormed sh → Demand sh

@@ -18,11 +18,11 @@ use Rattle.answer.specs.Answer.{Entry, Rule, answer, structureWith, stru
 use Rattle.answer.specs.Demand.{Answers, Unreached, Unforced, AnswersBy, SameAnswer, StaysInRange}
 use Rattle.answer.proofs.Lists.{found-or-none}
 use Rattle.answer.proofs.Listing.{chosen}
-use Rattle.answer.proofs.Demand.{demand, answers-with, made-unreached, to-itself-or-not, unforced-kept, unforced-zero, answer-nonempty, unforced-in-range}
+use Rattle.answer.proofs.Demand.{demand, answers-with, made-unreached, to-itself-or-not, unforced-kept, unforced-zero, fits-nonempty, unforced-in-range}
 
 module _ (sh : Sheet) (w : WellFormed sh) where
   -- a structure that answers a sheet answers it with its answer
-  answers-only : (e : Entry) (M : Structure) → Answers sh e M → answer sh ≡ some e
+  pub answers-only : (e : Entry) (M : Structure) → Answers sh e M → answer sh ≡ some e
   answers-only e M a =
       elim (found-or-none (answer sh)) [
         | inl q ↦ absurd (demand sh w .refuses .0 q M (a .candidate) (a .satisfies))
@@ -51,8 +51,8 @@ module _ (sh : Sheet) (w : WellFormed sh) where
   )
 
   -- a term's code stands in its cell
-  holds : (e : Entry) (M : Structure) → Answers sh e M → (i : ℕ) → i < length (sh .terms) → at (e .codes) i ≡ M .table (termAt sh i .symbol) (map (at (e .codes)) (termAt sh i .args))
-  holds e M a i h =
+  pub cell-of-term : (e : Entry) (M : Structure) → Answers sh e M → (i : ℕ) → i < length (sh .terms) → at (e .codes) i ≡ M .table (termAt sh i .symbol) (map (at (e .codes)) (termAt sh i .args))
+  cell-of-term e M a i h =
       subst (λ (cs : List ℕ). at cs i ≡ M .table (termAt sh i .symbol) (map (at cs) (termAt sh i .args))) (a .codes) (code-is M sh w i h)
 
   same-answer : (rule other : Rule) → StaysInRange rule sh → StaysInRange other sh → SameAnswer rule other sh
@@ -63,7 +63,7 @@ module _ (sh : Sheet) (w : WellFormed sh) where
           λ r. answer-by rule range e .0 (answer-by other range′ e .1 r),
         );
         entry = λ e d M N a b. one e d (sym (answers-only e M (a .answers)) ∙ answers-only d N (b .answers));
-        reached = λ e M N a b i h. sym (holds e M (a .answers) i h) ∙ holds e N (b .answers) i h;
+        reached = λ e M N a b i h. sym (cell-of-term e M (a .answers) i h) ∙ cell-of-term e N (b .answers) i h;
       }
     where
       one : (e d : Entry) → some e ≡ some d → e ≡ d
@@ -90,4 +90,4 @@ rules-agree s sh q = same-answer sh (accepted-well-formed s sh q)
 pub zeros-agree : (s : List ℕ) (sh : Sheet) → reading s ≡ accepted sh → SameAnswer (λ sh e f xs. 0) unforced sh
 zeros-agree s sh q =
     let w : WellFormed sh = accepted-well-formed s sh q in
-    rules-agree s sh q (λ sh e f xs. 0) unforced (λ e r f h xs i. answer-nonempty sh w e r (symbolAt sh f .result) (w .result f h)) (unforced-in-range sh w)
+    rules-agree s sh q (λ sh e f xs. 0) unforced (λ e r f h xs i. fits-nonempty sh w (at (e .sizes)) (at (e .codes)) (chosen sh w e r .fits) (symbolAt sh f .result) (w .result f h)) (unforced-in-range sh w)

@@ -47,7 +47,7 @@ pub record Demand (sh : Sheet) : Type 0 where
   pub refuses : (answer sh ≡ none) ↔ Hopeless sh
   -- otherwise the answer's tables are such a candidate, the earliest
   pub finds : (e : Entry) → answer sh ≡ some e → Answers sh e (structureOf sh e)
-  -- and the unforced cells hold what they should
+  -- and the cells that no term reaches hold what `Unforced` says
   pub unreached : (e : Entry) → answer sh ≡ some e → Unforced sh (structureOf sh e)
 
 -- M answers the sheet with an entry by a rule: the cells that no term reaches hold what the rule says

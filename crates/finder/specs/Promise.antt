@@ -16,7 +16,7 @@ use Rattle.finder.specs.declared.Finding.the-variants.{Found, Refused}
 
 -- What `Demand` says of the answer, said of what a call leaves behind: the number it gives, the codes C and the tables T that it wrote. The tables are well laid, and
 -- the structure that they hold is a candidate that satisfies every statement; the sum and the codes are its own; every other such candidate
--- comes no earlier; and the unforced cells, those that no term reaches, hold what they should.
+-- comes no earlier; and the cells that no term reaches hold what `Unforced` says.
 pub record Delivered (sh : Sheet) (n : ℕ) (C T : List ℕ) : Type 0 where
   pub laid : WellLaid sh T
   pub candidate : Candidate (decoded sh T) sh

@@ -58,7 +58,6 @@ pub few-arguments : (sh : Sheet) → WellFormed sh → (i : ℕ) → i < length 
 few-arguments sh w i h =
     omega (arith, length-map (termAt sh i .args) (sortAt sh), ap length (w .argSorts i h), w .arity (termAt sh i .symbol) (w .symbol i h))
 
--- the codes of a term's arguments lie in the sorts that its symbol takes, where the codes of earlier terms are in range
 -- what holds of the codes below a sort's size holds of the argument codes of a symbol that takes one argument, of this sort
 pub of-one-argument : (size : ℕ → ℕ) (s : ℕ) (params : List ℕ) → params ≡ s ∷ [] → (P : List ℕ → Type 0) → ((x : ℕ) → x < size s → P (x ∷ [])) → (xs : List ℕ) → InSorts size params xs → P xs
 of-one-argument size s params e P h xs i = step xs (subst (λ (ss : List ℕ). InSorts size ss xs) e i)
@@ -68,6 +67,7 @@ of-one-argument size s params e P h xs i = step xs (subst (λ (ss : List ℕ). I
     step (y ∷ []) j = h y (j .0)
     step (y ∷ z ∷ ys) j = absurd (j .1)
 
+-- the codes of a term's arguments lie in the sorts that its symbol takes, where the codes of earlier terms are in range
 pub arguments-in-sorts : (sh : Sheet) → WellFormed sh → (size c : ℕ → ℕ) (i : ℕ) → i < length (sh .terms) → ((a : ℕ) → a < i → c a < size (sortAt sh a)) → InSorts size (symbolAt sh (termAt sh i .symbol) .params) (map c (termAt sh i .args))
 arguments-in-sorts sh w size c i h below =
     subst (λ (ps : List ℕ). InSorts size ps (map c (termAt sh i .args))) (w .argSorts i h)

@@ -11,9 +11,8 @@ use lib.ListN.{length}
 use lib.Dec.{lit<, lit≤}
 use lib.Seq.{getD-take}
 use Rattle.logic.specs.Sheet.{Sheet, termAt}
-use Rattle.logic.specs.Structure.{codes}
 use Rattle.logic.specs.WellFormed.{WellFormed}
-use Rattle.logic.proofs.Meaning.{code-is, of-one-argument}
+use Rattle.logic.proofs.Meaning.{of-one-argument}
 use Rattle.prelude.specs.Lists.{at, sumTo, fronted}
 use Rattle.prelude.proofs.Lists.{sumTo-same}
 use Rattle.layout.specs.Layout.{Reading, accepted, refused, reading, readFrom, cause}
@@ -32,10 +31,9 @@ use Rattle.group.proofs.Replies.{answer-exactly, number-named}
 use Rattle.group.proofs.NoPart.{answered-alike}
 use Rattle.group.proofs.Worked as group-worked
 use Rattle.finder.specs.Find.{turnedDown, ceilings, outcome}
-use Rattle.answer.specs.Answer.{Entry, answer, unforced}
-use Rattle.answer.specs.Demand.{Hopeless, Unreached, ToItself}
-use Rattle.answer.proofs.Demand.{unforced-in-range}
-use Rattle.answer.proofs.Rules.{answer-by, rules-agree}
+use Rattle.answer.specs.Answer.{Entry, answer}
+use Rattle.answer.specs.Demand.{Answers, Hopeless, Unreached, ToItself}
+use Rattle.answer.proofs.Rules.{answers-only, cell-of-term}
 use Rattle.finder.specs.Promise.{Delivered, codesWritten, tablesWritten}
 use Rattle.worked.specs.Worked.{Row, row1, row2, row5, row13, Shows}
 use Rattle.finder.specs.declared.Finding.{Finding}
@@ -200,17 +198,16 @@ module _ (p : FindProgram) (meets : MeetsFind p) where
         given .sum
         ∙ sumTo-same (length (c .read .bounds)) (at (tablesWritten (c .read) bytes)) (at bytes) (λ i h. getD-take (extent (c .read) (at bytes)) bytes i 0 (omega arith))
 
-    -- the codes of the answer are those of the tables written, so that an expression's cell holds its code
+    -- the tables written answer with the answer, so that an expression's cell holds its code there
     code-written : (e : Entry) → answer (c .read) ≡ some e → (i : ℕ) → i < length (c .read .terms) → structureFrom p c .table (termAt (c .read) i .symbol) (map (at (e .codes)) (termAt (c .read) i .args)) ≡ at (e .codes) i
-    code-written e q i h = rw same (sym (code-is (structureFrom p c) (c .read) formed i h))
+    code-written e q i h =
+        sym (cell-of-term (c .read) formed e (structureFrom p c) (own _ (delivered-by (c .read) (c .sum) _ _ given .answers)) i h)
       where
-        same : e .codes ≡ codes (structureFrom p c) (c .read)
-        same =
-            let range = unforced-in-range (c .read) formed in
-            let a = answer-by (c .read) formed unforced range e .0 q in
-            let by = delivered-by (c .read) (c .sum) _ _ given in
-            ap (λ (d : Entry). d .codes) (rules-agree (c .sheet) (c .read) (c .reads) unforced unforced range range .entry e _ (a .0) (structureFrom p c) (a .1) by)
-            ∙ given .codes
+        own : (d : Entry) → Answers (c .read) d (structureFrom p c) → Answers (c .read) e (structureFrom p c)
+        own d a =
+            let both : some e ≡ some d = sym q ∙ answers-only (c .read) formed d (structureFrom p c) a in
+            let one : e ≡ d = cc in
+            rw one a
 
   not-invented-sum : InventedSum p → ⊥
   not-invented-sum wrong = wrong .1 (sum-written (wrong .0))
