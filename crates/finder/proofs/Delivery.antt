@@ -35,7 +35,7 @@ use Rattle.answer.proofs.Coincide.{coincide-answers, coincide-unforced, round-t
 
 module _ (sh : Sheet) (w : WellFormed sh) (s cs ts : List ℕ) (reads : reading s ≡ accepted sh) (codesFit : length (sh .terms) ≤ length cs) (tablesFit : extent sh (ceilings sh) ≤ length ts) where
   -- what the answer makes of the call
-  exits : (a : Option Entry) → answer sh ≡ a → Exit s cs ts (answering sh a)
+  pub exits : (a : Option Entry) → answer sh ≡ a → Exit s cs ts (answering sh a)
   exits a q = exit s cs ts (answering sh a) (outcome-long s sh a (length cs) (length ts) reads codesFit tablesFit q)
 
   module _ (e : Entry) (q : answer sh ≡ some e) where
@@ -56,7 +56,7 @@ module _ (sh : Sheet) (w : WellFormed sh) (s cs ts : List ℕ) (reads : reading 
         ∙ encoded-size (structureOf sh e) sh w i h
 
     -- the tables in front of the buffer are as long as their own sizes say
-    extended : extent sh (at (tablesAfter s cs ts)) ≡ length bytes
+    pub extended : extent sh (at (tablesAfter s cs ts)) ≡ length bytes
     extended =
         extent-same sh w (at (tablesAfter s cs ts)) (structureOf sh e .size) own-sizes ∙ sym (length-encoded (structureOf sh e) sh w)
 
@@ -71,7 +71,7 @@ module _ (sh : Sheet) (w : WellFormed sh) (s cs ts : List ℕ) (reads : reading 
       omega (arith, extended, ap length (exits (some e) q .tables), length-append bytes (drop (length bytes) ts)),
     )
 
-    written : tablesWritten sh (tablesAfter s cs ts) ≡ bytes
+    pub written : tablesWritten sh (tablesAfter s cs ts) ≡ bytes
     written =
         ap (λ (k : ℕ). take k (tablesAfter s cs ts)) extended
         ∙ ap (take (length bytes)) (exits (some e) q .tables)

@@ -30,7 +30,8 @@ pub fn added(p: Parsed, kind: usize, q: Payload) -> Parsed
     }
 }
 
-fn with_sort(p: Parsed, b0: u8, b1: u8) -> Parsed
+// A sort more: its floor and its ceiling.
+pub fn with_sort(p: Parsed, b0: u8, b1: u8) -> Parsed
     requires { ⌜ p .sorts < mostSorts ⌝ }
     ensures { λ r. ⌜ ((sh : Sheet) → p ≡ packed sh → r ≡ packed (addBound sh (record { floor = b0; ceiling = b1 }))) ⌝ }
 {
@@ -42,8 +43,8 @@ fn with_sort(p: Parsed, b0: u8, b1: u8) -> Parsed
     out
 }
 
-// The terms' sorts stay as they are: there is no term yet.
-fn with_symbol(p: Parsed, q: Payload) -> Parsed
+// A symbol more. The terms' sorts stay as they are: there is no term yet.
+pub fn with_symbol(p: Parsed, q: Payload) -> Parsed
     requires { ⌜ p .symbols < mostSymbols ⌝ }
     requires { ⌜ Short q ⌝ }
     ensures { λ r. ⌜ ((sh : Sheet) → p ≡ packed sh → length (sh .terms) ≡ 0 → r ≡ packed (addSymbol sh (record { result = q .b0; params = drop 1 (payloadBytes q) }))) ⌝ }
@@ -57,7 +58,8 @@ fn with_symbol(p: Parsed, q: Payload) -> Parsed
     out
 }
 
-fn with_term(p: Parsed, q: Payload) -> Parsed
+// A term more, of the sort that its symbol gives.
+pub fn with_term(p: Parsed, q: Payload) -> Parsed
     requires { ⌜ (p .terms < mostTerms) × (q .b0 < mostSymbols) ⌝ }
     requires { ⌜ Short q ⌝ }
     ensures { λ r. ⌜ ((sh : Sheet) → p ≡ packed sh → q .b0 < length (sh .symbols) → r ≡ packed (addTerm sh (record { symbol = q .b0; args = drop 1 (payloadBytes q) }))) ⌝ }
@@ -73,7 +75,8 @@ fn with_term(p: Parsed, q: Payload) -> Parsed
     out
 }
 
-fn with_literal(p: Parsed, equal: u8, b0: u8, b1: u8) -> Parsed
+// A literal more: `equal` is 1 for same and 0 for differ.
+pub fn with_literal(p: Parsed, equal: u8, b0: u8, b1: u8) -> Parsed
     requires { ⌜ p .literals < mostLiterals ⌝ }
     ensures { λ r. ⌜ ((sh : Sheet) (e : Bool) → p ≡ packed sh → equal ≡ bit e → r ≡ packed (addLiteral sh (record { equal = e; left = b0; right = b1 }))) ⌝ }
 {
@@ -86,7 +89,8 @@ fn with_literal(p: Parsed, equal: u8, b0: u8, b1: u8) -> Parsed
     out
 }
 
-fn with_total(p: Parsed, b0: u8) -> Parsed
+// The total.
+pub fn with_total(p: Parsed, b0: u8) -> Parsed
     ensures { λ r. ⌜ ((sh : Sheet) → p ≡ packed sh → r ≡ packed (withTotal sh b0)) ⌝ }
 {
     let mut out = p;

@@ -1,5 +1,5 @@
--- Interface. The answer lines (docs/FORMAT.md, "Asking line by line"), one definition for each kind of answer; that of find stands with
--- its question, in replies.
+-- Interface. The answer lines (docs/FORMAT.md, "Asking line by line"), one definition for each kind of answer; those of find and fitted stand
+-- with their questions, in replies.
 use Prim.Native.Nat.{ℕ}
 use mathlib.Core.Bool.{cond}
 use mathlib.Core.List.{List, [], _∷_}

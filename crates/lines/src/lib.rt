@@ -8,7 +8,7 @@ use tables::Judgement;
 use words::Complaint;
 ghost use Prim.Native.Nat.{_≤_};
 ghost use lib.ListN.{length};
-ghost use Rattle.text.specs.Text.{Wrote};
+ghost use Rattle.prelude.specs.Pasted.{Wrote};
 ghost use Rattle.lines.specs.Lines.{complaintLine, verdictLine, judgementLine, forcingLine, groupingLine, stretchLine};
 
 // What is wrong with a question.

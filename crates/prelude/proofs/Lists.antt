@@ -48,10 +48,14 @@ at-zeros zero i = refl
 at-zeros (suc n) zero = refl
 at-zeros (suc n) (suc i) = at-zeros n i
 
+-- an entry of a mapped list
+pub getD-map : {A B : Type 0} (g : A → B) (a : A) (b : B) (l : List A) (k : ℕ) → k < length l → getD (map g l) k b ≡ g (getD l k a)
+getD-map g a b [] k h = absurd (not-suc-le-zero h)
+getD-map g a b (x ∷ xs) zero h = refl
+getD-map g a b (x ∷ xs) (suc k) h = getD-map g a b xs k (le-of-suc-le-suc h)
+
 pub at-map : {A : Type 0} (g : A → ℕ) (l : List A) (d : A) (k : ℕ) → k < length l → at (map g l) k ≡ g (getD l k d)
-at-map g [] d k h = absurd (not-suc-le-zero h)
-at-map g (x ∷ xs) d zero h = refl
-at-map g (x ∷ xs) d (suc k) h = at-map g xs d k (le-of-suc-le-suc h)
+at-map g l d k h = getD-map g d 0 l k h
 
 -- what holds of each entry of a list, and what follows from it
 pub each-more : {p q : ℕ → Type 0} (l : List ℕ) → ((a : ℕ) → p a → q a) → Each p l → Each q l

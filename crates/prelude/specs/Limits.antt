@@ -21,6 +21,10 @@ mostCodes = 16
 abbrev pub mostTotal : ℕ
 mostTotal = 128
 
+-- the most bytes of an accepted sheet
+abbrev pub mostSheetBytes : ℕ
+mostSheetBytes = 2161
+
 -- stands for a parameter or an argument that is not there; no sort, symbol or term has this number
 abbrev pub missing : ℕ
 missing = 255

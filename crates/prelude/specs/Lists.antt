@@ -1,4 +1,5 @@
--- The interface: lists of numbers: an entry, a run of numbers, the first values of a function and their sum, a buffer with bytes in front.
+-- The interface: lists of numbers: an entry, a run of numbers, the first values of a function and their sum, a buffer with bytes in front; and lists
+-- one after the other.
 use Prim.Native.Nat.{ℕ, zero, suc, _+_}
 use mathlib.Core.List.{List, [], _∷_, _++_}
 use lib.ListN.{length, drop, getD}
@@ -25,3 +26,8 @@ sumTo (suc n) f = sumTo n f + f n
 -- a buffer with new bytes in front; the bytes behind them are untouched
 abbrev pub fronted : List ℕ → List ℕ → List ℕ
 fronted new buffer = new ++ drop (length new) buffer
+
+-- the lists h 0, h 1, .. , h (n - 1), one after the other
+abbrev pub collect : {A : Type 0} → ℕ → (ℕ → List A) → List A
+collect zero h = []
+collect (suc n) h = collect n h ++ h n

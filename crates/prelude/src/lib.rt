@@ -21,6 +21,9 @@ pub const MOST_CODES: usize = 16;
 
 pub const MOST_TOTAL: usize = 128;
 
+// The most bytes of an accepted sheet.
+pub const MOST_SHEET_BYTES: usize = 2161;
+
 // The same as bytes, to compare bytes with: the greatest size of a sort, and the greatest total.
 pub const GREATEST_SIZE: u8 = MOST_CODES as u8;
 

@@ -5,7 +5,7 @@ use mathlib.Core.Path.{_≡_, sym, ap, ap₂, _∙_}
 use mathlib.Core.Bool.{Bool, true, false, cond}
 use mathlib.Core.List.{List}
 use lib.ListN.{take}
-use Rattle.text.specs.Text.{Wrote}
+use Rattle.prelude.specs.Pasted.{Wrote}
 use Rattle.text.proofs.Lines.{renamed}
 use Rattle.words.specs.declared.Complaint.{Complaint}
 use Rattle.words.specs.Words.{wordAt, bytesOf, Decoded}

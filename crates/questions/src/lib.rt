@@ -13,7 +13,7 @@ use words::word;
 use words::wrong_with;
 ghost use Prim.Native.Nat.{_≤_};
 ghost use lib.ListN.{length};
-ghost use Rattle.text.specs.Text.{Wrote};
+ghost use Rattle.prelude.specs.Pasted.{Wrote};
 ghost use Rattle.questions.specs.Questions.{readReply, judgeReply, forcedReply, groupReply, tableReply};
 
 // The most bytes that the words of a line can stand for.

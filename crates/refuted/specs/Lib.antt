@@ -1,1 +1,2 @@
 pub mod WrongPrograms
+pub mod WrongFitted

@@ -6,11 +6,13 @@ use lib.ListN.{length, take, getD}
 use lib.Dec.{ltb, eqb}
 use Rattle.prelude.specs.Tests.{sameList}
 use Rattle.text.specs.Ascii.{ascii}
-use Rattle.text.specs.Text.{answerLine}
+use Rattle.text.specs.Text.{answerLine, bytesLine}
 use Rattle.words.specs.Words.{wordAt}
+use Rattle.layout.specs.Encode.{encode}
 use Rattle.tables.specs.Layout.{encoded}
 use Rattle.answer.specs.Answer.{sum, structureOf}
 use Rattle.finder.specs.Find.{Outcome, turnedDown, answered, outcome}
+use Rattle.fitted.specs.Filing.{Filing, turnedDown as Filing·turnedDown, filed, outcome as Filing·outcome}
 use Rattle.lines.specs.Lines.{refusalLine, emptyLine, longLine, unknownLine}
 use Rattle.questions.specs.Questions.{bytesAt, numberAt, unlessWrong, readReply, judgeReply, forcedReply, groupReply, tableReply}
 
@@ -23,6 +25,15 @@ findLine (answered sh e) = answerLine (sum (e .sizes)) (e .codes) (encoded (stru
 unfoldable pub findReply : List ℕ → List ℕ
 findReply line = unlessWrong (ascii "bnn") line (findLine (outcome (bytesAt line 1) (numberAt line 2) (numberAt line 3)))
 
+-- the answer line of fitted
+abbrev pub fittedLine : Filing → List ℕ
+fittedLine (Filing·turnedDown number place) = refusalLine number place
+fittedLine (filed new) = bytesLine (ascii "sheet") (length (encode new)) (encode new)
+
+-- fitted SHEET BUFLEN
+unfoldable pub fittedReply : List ℕ → List ℕ
+fittedReply line = unlessWrong (ascii "bn") line (fittedLine (Filing·outcome (bytesAt line 1) (numberAt line 2)))
+
 -- the answer by the verb
 abbrev pub verbReply : List ℕ → List ℕ → List ℕ
 verbReply verb line =
@@ -31,7 +42,8 @@ verbReply verb line =
     (cond (sameList verb (ascii "judge")) (judgeReply line)
     (cond (sameList verb (ascii "forced")) (forcedReply line)
     (cond (sameList verb (ascii "group")) (groupReply line)
-    (cond (sameList verb (ascii "table")) (tableReply line) unknownLine)))))
+    (cond (sameList verb (ascii "fitted")) (fittedReply line)
+    (cond (sameList verb (ascii "table")) (tableReply line) unknownLine))))))
 
 unfoldable pub asked : List ℕ → List ℕ
 asked line = verbReply (wordAt line 0) line

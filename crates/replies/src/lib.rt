@@ -1,8 +1,10 @@
-// What `ask` prints for a line, whatever the line is: by its verb, the reply of the question; find is asked here.
+// What `ask` prints for a line, whatever the line is: by its verb, the reply of the question; find and fitted are asked here.
 use finder::Finding;
 use finder::MOST_TABLES;
+use fitted::Fitting;
 use layout::Parsed;
 use lines::complaint_line;
+use prelude::MOST_SHEET_BYTES;
 use prelude::MOST_TERMS;
 use prelude::wide;
 use questions::MOST_DECODED;
@@ -21,12 +23,14 @@ ghost use Prim.Native.Nat.{_≤_, min};
 ghost use mathlib.Core.Path.{_≡_};
 ghost use lib.ListN.{length};
 ghost use Rattle.logic.specs.Sheet.{Sheet};
+ghost use Rattle.prelude.specs.Limits.{mostSheetBytes};
 ghost use Rattle.prelude.specs.Lists.{at};
 ghost use Rattle.tables.specs.Layout.{extent};
 ghost use Rattle.tables.specs.Parts.{Packs, Limited};
 ghost use Rattle.finder.specs.Find.{outcome, ReadFrom};
-ghost use Rattle.text.specs.Text.{Wrote};
-ghost use Rattle.replies.specs.Reply.{reply, withoutReturn, asked, findLine, findReply};
+ghost use Rattle.fitted.specs.Filing.{outcome as Filing·outcome};
+ghost use Rattle.prelude.specs.Pasted.{Wrote};
+ghost use Rattle.replies.specs.Reply.{reply, withoutReturn, asked, findLine, findReply, fittedLine, fittedReply};
 
 // The most characters that a line may have.
 const MOST_CHARACTERS: usize = 262144;
@@ -80,6 +84,9 @@ fn answer_asked(line: &[u8], out: &mut [u8]) -> usize
     }
     if same(verb, b"group") {
         return group_question(line, out);
+    }
+    if same(verb, b"fitted") {
+        return fitted_question(line, out);
     }
     if same(verb, b"table") {
         return table_question(line, out);
@@ -164,4 +171,41 @@ fn written(p: Parsed, tables: &[u8]) -> usize
     let offsets = tables::extents(p, sizes);
     let end = p.symbols;
     offsets[end]
+}
+
+// fitted SHEET BUFLEN
+fn fitted_question(line: &[u8], out: &mut [u8]) -> usize
+    requires { ⌜ (length (now line) ≤ 262144) × (65536 ≤ length (now out)) ⌝ }
+    ensures { λ r. ⌜ Wrote (now (out .entry)) 0 (fittedReply (now (line .entry))) (now (out .exit)) r ⌝ }
+{
+    let wrong = wrong_with(line, b"bn");
+    if is_wrong(wrong) {
+        return complaint_line(out, wrong);
+    }
+    let mut sheet = [0u8; MOST_DECODED];
+    let n = decode(word(line, 1), &mut sheet);
+    let room = number(word(line, 2));
+    fitted_with(&sheet[..n], room, out)
+}
+
+// Asks fitted with a buffer of this length; a longer one than the longest sheet makes no difference.
+fn fitted_with(sheet: &[u8], room: usize, out: &mut [u8]) -> usize
+    requires { ⌜ 65536 ≤ length (now out) ⌝ }
+    ensures { λ r. ⌜ Wrote (now (out .entry)) 0 (fittedLine (Filing·outcome (now (sheet .entry)) «room»)) (now (out .exit)) r ⌝ }
+{
+    let mut buffer = [0u8; MOST_SHEET_BYTES];
+    let lent = lesser(room, MOST_SHEET_BYTES);
+    fitted_into(sheet, &mut buffer[..lent], out)
+}
+
+// Asks fitted with this buffer, and shows the sheet that stands in front of it then.
+fn fitted_into(sheet: &[u8], buffer: &mut [u8], out: &mut [u8]) -> usize
+    requires { ⌜ (length (now buffer) ≤ mostSheetBytes) × (65536 ≤ length (now out)) ⌝ }
+    ensures { λ r. ⌜ Wrote (now (out .entry)) 0 (fittedLine (Filing·outcome (now (sheet .entry)) (length (now (buffer .entry))))) (now (out .exit)) r ⌝ }
+{
+    let answer = fitted::fitted(sheet, buffer);
+    match answer {
+        Fitting::Refused { number, place } => text::refused_line(out, wide(number), place),
+        Fitting::Written { length } => text::bytes_line(out, b"sheet", length, &buffer[..length]),
+    }
 }

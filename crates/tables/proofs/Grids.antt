@@ -108,6 +108,25 @@ in-grid size (s ∷ (u ∷ [])) (c ∷ (d ∷ [])) h e i =
 in-grid size (s ∷ (u ∷ [])) (c ∷ (d ∷ (x ∷ xs))) h e i = absurd (i .1 .1)
 in-grid size (s ∷ (u ∷ (v ∷ vs))) (c ∷ cs) h e i = absurd (omega arith)
 
+-- as many argument codes as parameters
+pub in-sorts-length : (size : ℕ → ℕ) (params xs : List ℕ) → InSorts size params xs → length xs ≡ length params
+in-sorts-length size [] [] i = refl
+in-sorts-length size [] (x ∷ xs) i = absurd i
+in-sorts-length size (s ∷ ss) [] i = absurd i
+in-sorts-length size (s ∷ ss) (x ∷ xs) i = ap suc (in-sorts-length size ss xs (i .1))
+
+-- the argument codes of a cell from its row and its column
+pub cell-codes : (params xs : List ℕ) → length xs ≡ length params → length params ≤ 2 → take (length params) (at xs 0 ∷ at xs 1 ∷ []) ≡ xs
+cell-codes [] [] e h = refl
+cell-codes [] (x ∷ xs) e h = absurd (omega arith)
+cell-codes (s ∷ ss) [] e h = absurd (omega arith)
+cell-codes (s ∷ []) (x ∷ []) e h = refl
+cell-codes (s ∷ []) (x ∷ y ∷ xs) e h = absurd (omega arith)
+cell-codes (s ∷ r ∷ ss) (x ∷ []) e h = absurd (omega arith)
+cell-codes (s ∷ r ∷ []) (x ∷ y ∷ []) e h = refl
+cell-codes (s ∷ r ∷ []) (x ∷ y ∷ z ∷ xs) e h = absurd (omega arith)
+cell-codes (s ∷ r ∷ q ∷ ss) (x ∷ y ∷ xs) e h = absurd (omega arith)
+
 -- a grid that holds a structure's cells is the structure's table
 pub grid-is-table : (M : Structure) (f : ℕ) (params : List ℕ) (cells : List (List ℕ)) → length params ≤ 2 → Each (λ s. s < 8) params → ((cs : List ℕ) → InSorts (M .size) params cs → cell cells (at cs 0) (at cs 1) ≡ M .table f cs) → grid cells (width (M .size) (first params)) (width (M .size) (second params)) ≡ tableBytes M f params
 grid-is-table M f params cells h e holds =

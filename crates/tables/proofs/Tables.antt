@@ -9,7 +9,7 @@ use lib.ListN.{length, getD, take, length-append, length-map, List·getD-append}
 use lib.Seq.{getD-append-add, take-append-add, take-at, take-all, ext-getD}
 use Rattle.logic.specs.Sheet.{Sheet, Symbol, boundAt, symbolAt, termAt, noSymbol}
 use Rattle.prelude.specs.Lists.{at, sumTo, firsts, run}
-use Rattle.prelude.proofs.Lists.{length-firsts, at-firsts, sumTo-monotone, at-map}
+use Rattle.prelude.proofs.Lists.{length-firsts, at-firsts, sumTo-monotone, getD-map, at-map}
 use Rattle.logic.specs.Structure.{Structure, InSorts, Interprets, code, Satisfies, Bounded}
 use Rattle.logic.specs.WellFormed.{WellFormed}
 use Rattle.logic.specs.Box.{Range, fronts, box}
@@ -33,11 +33,6 @@ pub length-box : (size : ℕ → ℕ) (params : List ℕ) → length (box (range
 length-box size [] = refl
 length-box size (s ∷ ss) = length-fronts 0 (size s) (box (ranges size ss)) ∙ ap (λ (n : ℕ). size s * n) (length-box size ss)
 
-getD-map : (x : ℕ) (l : List (List ℕ)) (k : ℕ) → k < length l → getD (map (λ (y : List ℕ). x ∷ y) l) k [] ≡ x ∷ getD l k []
-getD-map x [] k h = absurd (not-suc-le-zero h)
-getD-map x (y ∷ ys) zero h = refl
-getD-map x (y ∷ ys) (suc k) h = getD-map x ys k (le-of-suc-le-suc h)
-
 fronts-at : (least many : ℕ) (tails : List (List ℕ)) (c p : ℕ) → c < many → p < length tails → getD (fronts (run least many) tails) (c * length tails + p) [] ≡ (least + c) ∷ getD tails p []
 fronts-at least zero tails c p h l = absurd (not-suc-le-zero h)
 fronts-at least (suc many) tails zero p h l =
@@ -47,7 +42,7 @@ fronts-at least (suc many) tails zero p h l =
     let x : least ≡ least + 0 = omega arith in
     ap (λ (k : ℕ). getD (front ++ rest) k []) e
     ∙ List·getD-append front rest [] p (rw length-map l)
-    ∙ getD-map least tails p l
+    ∙ getD-map (λ (y : List ℕ). least ∷ y) [] [] tails p l
     ∙ ap (λ (z : ℕ). z ∷ getD tails p []) x
 fronts-at least (suc many) tails (suc c) p h l =
     let front = map (λ (y : List ℕ). least ∷ y) tails in

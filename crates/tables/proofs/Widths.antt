@@ -4,8 +4,10 @@ use Prim.Native.Nat.{ℕ, _+_, _*_, _≤_, _<_}
 use native.Mathlib.Nat.{mul-le-mul, mul-one}
 use native.Mathlib.Omega.{arith}
 use mathlib.Core.Path.{_≡_, refl, ap, sym}
+use mathlib.Core.Bool.{cond}
 use mathlib.Core.List.{List, [], _∷_, map}
 use lib.ListN.{length}
+use lib.Dec.{ltb}
 use borrow.Author.Tests.{lt-ltb}
 use Rattle.prelude.specs.Tests.{Each}
 use Rattle.layout.specs.Packed.{first, second}
@@ -38,3 +40,17 @@ place-by-width size c (s ∷ (u ∷ (v ∷ vs))) (a ∷ as′) h l e z = absurd 
 -- two bytes multiply to no more than two sizes may
 pub product-small : (a b : ℕ) → a < 256 → b < 256 → a * b ≤ countableCells
 product-small a b h l = mul-le-mul {n₁ = a} {m₁ = b} {n₂ = 255} {m₂ = 255} (omega arith) (omega arith)
+
+-- widths at sizes that agree
+pub widths-same :
+    (n : ℕ) (size other : ℕ → ℕ) (params : List ℕ) → Each (λ s. s < n) params → ((s : ℕ) → s < n → size s ≡ other s)
+    → (width size (first params) ≡ width other (first params)) × (width size (second params) ≡ width other (second params))
+widths-same n size other [] e h = (refl, refl)
+widths-same n size other (s ∷ []) e h = (ap (λ (x : ℕ). cond (ltb s 8) x 1) (h s (e .0)), refl)
+widths-same n size other (s ∷ r ∷ l) e h = (ap (λ (x : ℕ). cond (ltb s 8) x 1) (h s (e .0)), ap (λ (x : ℕ). cond (ltb r 8) x 1) (h r (e .1 .0)))
+
+-- a parameter's width is at most 16
+pub width-small : (size : ℕ → ℕ) (params : List ℕ) → Each (λ s. s < 8) params → Each (λ s. size s ≤ 16) params → (width size (first params) ≤ 16) × (width size (second params) ≤ 16)
+width-small size [] b e = (omega arith, omega arith)
+width-small size (s ∷ []) b e = (omega (arith, width-there size s (b .0), e .0), omega arith)
+width-small size (s ∷ r ∷ l) b e = (omega (arith, width-there size s (b .0), e .0), omega (arith, width-there size r (b .1 .0), e .1 .0))

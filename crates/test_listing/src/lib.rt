@@ -4,6 +4,7 @@
 // the listing is right rests on its being plain.
 pub mod answer; // the answer of a sheet: the first candidate, before its unforced cells are filled
 pub mod apart; // which terms an interpretation tells apart
+pub mod fitted; // the answer's fitted sheet
 pub mod keys; // what terms and literals say under one interpretation
 pub mod ranges; // lists of sizes
 pub mod shape; // the tables of interpretations, and an odometer over them

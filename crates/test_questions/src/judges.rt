@@ -21,7 +21,7 @@ use test_listing::shape::Shape;
 use test_listing::shape::first_tables;
 use test_listing::shape::shaped;
 use test_listing::shape::turn;
-use test_sheets::numbers::one_less;
+use test_sheets::numbers::minus;
 use test_sheets::numbers::plus;
 use test_sheets::plan::LITERALS;
 use test_sheets::plan::MOST_SORTS;
@@ -141,7 +141,7 @@ fn possible(way: usize, sorts: usize, length: usize) -> usize {
 fn damaged_place(way: usize, sorts: usize, length: usize) -> usize {
     match way {
         1 => sorts / 2,
-        4 => one_less(length),
+        4 => minus(length, 1),
         _ => 0,
     }
 }
@@ -159,7 +159,7 @@ fn damaged_length(way: usize, length: usize) -> usize {
     match way {
         2 => plus(length, 1),
         3 => 0,
-        5 => one_less(length),
+        5 => minus(length, 1),
         _ => length,
     }
 }

@@ -8,7 +8,7 @@ use test_sheets::plan::TERMS;
 use test_sheets::plan::count;
 use test_sheets::plan::record_at;
 
-pub const COUNTS: usize = 27;
+pub const COUNTS: usize = 32;
 
 // The counts, in the order of the report.
 pub const SHEETS: usize = 0;
@@ -63,7 +63,17 @@ pub const OWN: usize = 24;
 
 pub const NO_TERM: usize = 25;
 
-pub const DIFFERENCES: usize = 26;
+pub const FITTED: usize = 26;
+
+pub const NOT_FITTED: usize = 27;
+
+pub const TOO_MANY: usize = 28;
+
+pub const TOO_SHORT: usize = 29;
+
+pub const FOUND_AGAIN: usize = 30;
+
+pub const DIFFERENCES: usize = 31;
 
 pub fn add(counts: &mut [u64; COUNTS], at: usize, n: usize) {
     let k = at % COUNTS;
@@ -110,7 +120,8 @@ pub fn refusal(number: u8, place: usize) -> usize {
 pub fn report(counts: &[u64; COUNTS]) {
     let n = report_find(counts, report_sheets(counts, 0));
     let m = report_forced(counts, report_judge(counts, n));
-    fill(b"differences #\n", counts, report_group(counts, m));
+    let k = report_fitted(counts, report_group(counts, m));
+    fill(b"differences #\n", counts, k);
 }
 
 fn report_sheets(counts: &[u64; COUNTS], n: usize) -> usize {
@@ -148,6 +159,14 @@ fn report_forced(counts: &[u64; COUNTS], n: usize) -> usize {
 fn report_group(counts: &[u64; COUNTS], n: usize) -> usize {
     fill(
         b"group: a lower number #\n- the expression's own number #\n- refused 13 #\n",
+        counts,
+        n,
+    )
+}
+
+fn report_fitted(counts: &[u64; COUNTS], n: usize) -> usize {
+    fill(
+        b"fitted: written #\n- refused 11 #\n- refused 14 #\n- refused 10, a buffer one byte short #\n- find gives the old names their tables again #\n",
         counts,
         n,
     )

@@ -1,6 +1,6 @@
 // Draws a sheet: up to three sorts, six symbols of any arity, twelve terms and eight literals, and a total that may bind.
 use crate::dice::pick;
-use crate::numbers::one_less;
+use crate::numbers::minus;
 use crate::numbers::plus;
 use crate::numbers::wide;
 use crate::plan::LITERALS;
@@ -244,7 +244,7 @@ fn with_drawn_literal(p: [u8; PLAN], way: usize, kind: u8, left: usize, from: us
 
 // The last literal once more, or its opposite.
 fn after_last(p: [u8; PLAN], again: bool) -> [u8; PLAN] {
-    let l = record_at(p, LITERALS, one_less(count(p, LITERALS)));
+    let l = record_at(p, LITERALS, minus(count(p, LITERALS), 1));
     let kind = if (l.kind == SAME) == again { SAME } else { 5 };
     with(p, LITERALS, kind, 2, wide(l.x), wide(l.y), 0)
 }

@@ -1,12 +1,12 @@
-// Writes a drawn sheet as bytes, record after record (docs/FORMAT.md, The sheet).
+// Writes a sheet as bytes, record after record (docs/FORMAT.md, The sheet).
 use crate::numbers::wide;
 use crate::plan::PLAN;
 use crate::plan::Record;
 use crate::plan::count;
 use crate::plan::record_at;
 
-// The most bytes of a sheet that is drawn.
-pub const SHEET: usize = 512;
+// More bytes than any sheet has that is accepted.
+pub const SHEET: usize = 2304;
 
 // Writes the sheet from the start of the bytes and gives its length: part after part, of the 16 places of each those that have a record.
 pub fn encode(p: [u8; PLAN], bytes: &mut [u8; SHEET]) -> usize {
@@ -21,7 +21,7 @@ pub fn encode(p: [u8; PLAN], bytes: &mut [u8; SHEET]) -> usize {
 
 // Writes one record and gives the place after it. Payload bytes that the record does not have are written past that place, where the next
 // record comes.
-fn put(bytes: &mut [u8; SHEET], at: usize, r: Record) -> usize {
+pub fn put(bytes: &mut [u8; SHEET], at: usize, r: Record) -> usize {
     let k = at % (SHEET - 6);
     bytes[k] = r.length;
     bytes[k + 1] = 0;

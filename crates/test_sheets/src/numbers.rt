@@ -24,7 +24,9 @@ pub fn times(a: usize, b: usize) -> usize {
     (a % 16777216) * (b % 256)
 }
 
-pub fn larger(a: usize, b: usize) -> usize {
+pub fn larger(a: usize, b: usize) -> usize
+    ensures { λ r. ⌜ b ≤ r ⌝ }
+{
     if a < b { b } else { a }
 }
 
@@ -34,7 +36,7 @@ pub fn smaller(a: usize, b: usize) -> usize
     if a < b { a } else { b }
 }
 
-// The number before, 0 before 0.
-pub fn one_less(n: usize) -> usize {
-    if n == 0 { 0 } else { n - 1 }
+// The difference, 0 where the second number is the larger.
+pub fn minus(a: usize, b: usize) -> usize {
+    if a < b { 0 } else { a - b }
 }

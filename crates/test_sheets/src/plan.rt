@@ -6,7 +6,7 @@ use crate::numbers::wide;
 
 pub const MOST_SORTS: usize = 3;
 
-pub const MOST_SYMBOLS: usize = 8;
+pub const MOST_SYMBOLS: usize = 16;
 
 pub const MOST_TERMS: usize = 16;
 

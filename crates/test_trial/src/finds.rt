@@ -1,20 +1,14 @@
 // Find against the first candidate of the listing, its unforced cells filled by the rule, byte for byte, with buffers that are roomy, exact and too short.
+use crate::buffers::written;
 use finder::Finding;
 use test_listing::answer::NOTHING;
-use test_listing::answer::list;
 use test_listing::keys::KEY;
 use test_listing::shape::ROOM;
 use test_listing::shape::length;
-use test_listing::unforced::keep_codes;
-use test_questions::slices::first;
-use test_questions::slices::rest;
 use test_questions::tally::COUNTS;
 use test_questions::tally::FOUND;
-use test_questions::tally::KEPT;
-use test_questions::tally::LISTED;
 use test_questions::tally::NO_ANSWER;
 use test_questions::tally::SHORT;
-use test_questions::tally::add;
 use test_questions::tally::expect;
 use test_questions::tally::refusal;
 use test_sheets::numbers::smaller;
@@ -45,19 +39,20 @@ struct Lent {
     fill: u8,
 }
 
-pub(crate) fn compare(p: [u8; PLAN], sheet: &[u8], counts: &mut [u64; COUNTS]) {
-    let mut best = [0u8; ROOM];
-    let key = list(p, &mut best);
-    let kept = keep_codes(p, key, &mut best);
+pub(crate) fn compare(
+    p: [u8; PLAN],
+    key: [u8; KEY],
+    best: &[u8; ROOM],
+    sheet: &[u8],
+    counts: &mut [u64; COUNTS],
+) {
     let exact = Lent {
         codes: count(p, TERMS),
         tables: length(p, ceilings(p)),
         fill: 90,
     };
-    add(counts, LISTED, 1);
-    add(counts, KEPT, kept);
-    answered(sheet, key, &best, wanted(p, key), exact, counts);
-    too_short(sheet, key, &best, exact, counts);
+    answered(sheet, key, best, wanted(p, key), exact, counts);
+    too_short(sheet, key, best, exact, counts);
 }
 
 // The answer in buffers that are roomy, and in buffers that are exact.
@@ -153,10 +148,4 @@ fn asked(sheet: &[u8], codes: &mut [u8], tables: &mut [u8], lent: Lent) -> usize
         Finding::Found { sum } => smaller(sum, 999),
         Finding::Refused { number, place } => refusal(number, place),
     }
-}
-
-// Whether a buffer starts with the first n wanted bytes and is untouched behind them. (Where fewer than n are wanted, it is not.)
-fn written(buffer: &[u8], want: &[u8], n: usize, untouched: &[u8]) -> bool {
-    check::same(first(buffer, n), first(want, n))
-        && check::same(rest(buffer, n), rest(untouched, n))
 }

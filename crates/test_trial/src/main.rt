@@ -1,7 +1,10 @@
-// The sheet of zero bytes, and random small sheets from a fixed seed. Find, judge, table of a name, forced and group are asked about each, and what
-// they give is compared with a listing of all interpretations (crate test_listing). The numbers printed are fixed by the seed; a difference is printed with its
-// sheet.
+// The sheet of zero bytes, sheets at the limits of fitted sheets, and random small sheets from a fixed seed. Find, judge, table of a name, forced, group
+// and fitted are asked about each, and what they give is compared with a listing of all interpretations (crate test_listing). The numbers printed are
+// fixed by the seed; a difference is printed with its sheet.
+mod answers; // find and fitted, over one listing
+mod buffers; // what a buffer holds
 mod finds; // find is asked
+mod fits; // fitted is asked
 
 use test_listing::answer;
 use test_listing::apart;
@@ -12,6 +15,7 @@ use test_questions::tally;
 use test_questions::ties;
 use test_sheets::draw;
 use test_sheets::encode;
+use test_sheets::full;
 use test_sheets::plan::PLAN;
 
 const DRAWN: usize = 4000;
@@ -20,12 +24,21 @@ fn main() {
     let mut state: u64 = 1;
     let mut counts = [0u64; tally::COUNTS];
     one_sheet([0u8; PLAN], &mut counts);
+    at_limits(&mut counts);
     let mut k: usize = 0;
     while k < DRAWN {
         one_sheet(draw::draw(&mut state), &mut counts);
         k += 1;
     }
     tally::report(&counts);
+}
+
+// Sheets whose fitted sheet is full, and those with one cell more.
+fn at_limits(counts: &mut [u64; tally::COUNTS]) {
+    one_sheet(full::of_expressions(0), counts);
+    one_sheet(full::of_expressions(1), counts);
+    one_sheet(full::of_statements(0), counts);
+    one_sheet(full::of_statements(1), counts);
 }
 
 fn one_sheet(p: [u8; PLAN], counts: &mut [u64; tally::COUNTS]) {
@@ -46,7 +59,7 @@ fn compare(
     let candidates = answer::candidates(p);
     if candidates <= shape::BUDGET {
         tally::add(counts, tally::CANDIDATES, candidates);
-        finds::compare(p, sheet, counts);
+        answers::compare(p, sheet, counts);
         judges::compare(p, sheet, counts);
     }
     let structures = apart::structures(p);

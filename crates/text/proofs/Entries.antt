@@ -1,14 +1,14 @@
 -- Entries of a list written one after the other, each as `show` shows it: what the loops of `put_cells` and `put_hex` keep.
 use Prim.Native.Nat.{ℕ, _+_, _*_, _≤_, _<_}
-use native.Mathlib.Nat.{add-zero, mul-suc, mul-le-mul-left}
+use native.Mathlib.Nat.{mul-suc, mul-le-mul-left}
 use native.Mathlib.Numerals.{add-one}
 use native.Mathlib.Omega.{arith}
-use mathlib.Core.Path.{_≡_, sym, ap, _∙_}
+use mathlib.Core.Path.{_≡_, ap, _∙_}
 use mathlib.Core.List.{List, [], _∷_, _++_}
 use lib.ListN.{length, take, getD, length-append}
 use lib.Seq.{take-suc, take-length}
-use Rattle.text.specs.Text.{Wrote}
-use Rattle.text.proofs.Pasted.{pasted-none, wrote-length, wrote-both}
+use Rattle.prelude.specs.Pasted.{Wrote}
+use Rattle.prelude.proofs.Pasted.{wrote-none, wrote-length, wrote-both}
 
 -- the first i entries stand in the buffer, each in at most so many bytes
 pub record EntriesWritten (show : List ℕ → List ℕ) (most : ℕ) (d : List ℕ) (from : ℕ) (s d′ : List ℕ) (r i : ℕ) : Type 0 where
@@ -19,7 +19,7 @@ pub record EntriesWritten (show : List ℕ → List ℕ) (most : ℕ) (d : List 
 pub none-written : (show : List ℕ → List ℕ) (most : ℕ) → show [] ≡ [] → (d : List ℕ) (from : ℕ) (s : List ℕ) → from ≤ length d → EntriesWritten show most d from s d from 0
 none-written show most none d from s room =
     record {
-      wrote = rw none (record { end = sym (add-zero from); within = room; held = sym (pasted-none d from) });
+      wrote = rw none (wrote-none d from room);
       short = rw none (omega arith);
       within = omega arith;
     }

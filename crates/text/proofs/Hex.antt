@@ -4,8 +4,9 @@ use native.Mathlib.Omega.{arith}
 use mathlib.Core.Path.{_≡_, refl, ap}
 use mathlib.Core.List.{List, [], _∷_, _++_}
 use lib.ListN.{length, set, length-set}
-use Rattle.text.specs.Text.{hexDigit, hex, shown, Wrote}
-use Rattle.text.proofs.Pasted.{pasted-one, wrote-both}
+use Rattle.prelude.specs.Pasted.{Wrote}
+use Rattle.text.specs.Text.{hexDigit, hex, shown}
+use Rattle.prelude.proofs.Pasted.{pasted-one, wrote-both}
 
 length-hex : (s : List ℕ) → length (hex s) ≡ 2 * length s
 length-hex [] = refl

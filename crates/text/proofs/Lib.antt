@@ -1,4 +1,3 @@
-pub mod Pasted
 pub mod Decimal
 pub mod PutNumber
 pub mod Lines

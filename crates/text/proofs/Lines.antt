@@ -1,8 +1,9 @@
 -- The parts of a line as they are written one behind the other.
-use Prim.Native.Nat.{ℕ, _+_}
+use Prim.Native.Nat.{ℕ}
 use mathlib.Core.Path.{_≡_, sym, ap, _∙_}
 use mathlib.Core.List.{List, [], _∷_, _++_, append-assoc, append-nil}
-use Rattle.text.specs.Text.{decimal, spaced, line, lineFeed, Wrote}
+use Rattle.prelude.specs.Pasted.{Wrote}
+use Rattle.text.specs.Text.{decimal, spaced, line, lineFeed}
 
 -- what was written under an equal name
 pub renamed : {d : List ℕ} {i : ℕ} {s t d′ : List ℕ} {r : ℕ} → s ≡ t → Wrote d i s d′ r → Wrote d i t d′ r

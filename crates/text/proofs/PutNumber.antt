@@ -4,8 +4,9 @@ use native.Mathlib.Omega.{arith}
 use mathlib.Core.Path.{_≡_, refl, sym, ap, _∙_}
 use mathlib.Core.List.{List, [], _∷_}
 use lib.ListN.{length, set, length-append}
-use Rattle.text.specs.Text.{decimal, pasted, Wrote}
-use Rattle.text.proofs.Pasted.{pasted-one, wrote-length, wrote-then}
+use Rattle.prelude.specs.Pasted.{pasted, Wrote}
+use Rattle.text.specs.Text.{decimal}
+use Rattle.prelude.proofs.Pasted.{pasted-one, wrote-length, wrote-then}
 use Rattle.text.proofs.Decimal.{decimal-small, decimal-large}
 
 module _ (d : List ℕ) (i n : ℕ) (room : i + length (decimal n) ≤ length d) where

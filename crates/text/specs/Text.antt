@@ -1,10 +1,7 @@
--- Interface. The lines that the programs print (docs/FORMAT.md, "The find program" and "Asking line by line"), as bytes, and where they go in a
--- buffer.
-use Prim.Native.Nat.{ℕ, zero, suc, _+_, _/_, _%_, _≤_}
-use mathlib.Core.Path.{_≡_}
+-- Interface. The lines that the programs print (docs/FORMAT.md, "The find program" and "Asking line by line"), as bytes.
+use Prim.Native.Nat.{ℕ, zero, suc, _+_, _/_, _%_}
 use mathlib.Core.Bool.{true, false, cond}
 use mathlib.Core.List.{List, [], _∷_, _++_}
-use lib.ListN.{length, take, drop}
 use lib.Dec.{ltb}
 
 -- the decimal digits of a number, at most k of them
@@ -58,17 +55,11 @@ abbrev pub shown : List ℕ → List ℕ
 shown [] = 45 ∷ []
 shown (b ∷ bs) = hex (b ∷ bs)
 
+-- a line of a word, a number, and bytes
+abbrev pub bytesLine : List ℕ → ℕ → List ℕ → List ℕ
+bytesLine word n bytes = word ++ (spaced (n ∷ []) ++ ((space ∷ shown bytes) ++ lineFeed))
+
 -- the line of an answer whole: the sum of the sizes, the codes, the tables
 abbrev pub answerLine : ℕ → List ℕ → List ℕ → List ℕ
 answerLine sum codes tables =
     foundWord ++ (spaced (sum ∷ []) ++ ((space ∷ shown codes) ++ ((space ∷ shown tables) ++ lineFeed)))
-
--- the list s in the buffer d from place i on; the rest of d stays
-abbrev pub pasted : List ℕ → ℕ → List ℕ → List ℕ
-pasted d i s = take i d ++ (s ++ drop (i + length s) d)
-
--- the list s was written into the buffer d from place i on: d′ is the buffer then, r the place behind s
-pub record Wrote (d : List ℕ) (i : ℕ) (s : List ℕ) (d′ : List ℕ) (r : ℕ) : Type 0 where
-  pub end : r ≡ i + length s
-  pub within : r ≤ length d
-  pub held : d′ ≡ pasted d i s

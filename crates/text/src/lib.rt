@@ -3,7 +3,8 @@ ghost use mathlib.Core.Path.{_≡_};
 ghost use mathlib.Core.List.{[], _∷_};
 ghost use Prim.Native.Nat.{_+_, _*_, _≤_, _<_};
 ghost use lib.ListN.{length};
-ghost use Rattle.text.specs.Text.{Wrote, decimal, spaced, line, hexDigit, hex, shown, answerLine, foundWord, refusedWord, fieldWord, nameWord};
+ghost use Rattle.prelude.specs.Pasted.{Wrote};
+ghost use Rattle.text.specs.Text.{decimal, spaced, line, hexDigit, hex, shown, bytesLine, answerLine, foundWord, refusedWord, fieldWord, nameWord};
 
 // The line `found S` of an answer, S being the sum of the sizes: its length, and its bytes at the front of the buffer.
 pub fn found_line(out: &mut [u8], sum: usize) -> usize
@@ -70,6 +71,17 @@ pub fn pair_line(out: &mut [u8], word: &[u8], a: usize, b: usize) -> usize
     let at = put(out, 0, word);
     let at = put_spaced(out, at, a);
     let at = put_spaced(out, at, b);
+    put(out, at, b"\n")
+}
+
+// Writes a line of a word, a number and bytes, and gives its length.
+pub fn bytes_line(out: &mut [u8], word: &[u8], number: usize, bytes: &[u8]) -> usize
+    requires { ⌜ (length (now word) < 1000) × (2048 + 2 * length (now bytes) ≤ length (now out)) ⌝ }
+    ensures { λ r. ⌜ Wrote (now (out .entry)) 0 (bytesLine (now (word .entry)) number (now (bytes .entry))) (now (out .exit)) r ⌝ }
+{
+    let at = put(out, 0, word);
+    let at = put_spaced(out, at, number);
+    let at = put_bytes(out, at, bytes);
     put(out, at, b"\n")
 }
 

@@ -1,15 +1,19 @@
 -- The sheet of zero bytes: what find does is its row of the worked sheets, and what judge says is a row of the theorem about every accepted sheet.
-use Prim.Native.Nat.{ℕ}
+use Prim.Native.Nat.{ℕ, _≤_, _<_}
+use native.Mathlib.Decide.{decLt}
 use native.Mathlib.Omega.{arith}
 use mathlib.Core.Path.{_≡_, refl, ap, _∙_}
 use mathlib.Core.Bool.{Bool, true, false, cond}
 use mathlib.Core.Logic.{_↔_}
 use mathlib.Core.List.{List, [], _∷_}
 use mathlib.Core.Option.{some}
+use lib.ListN.{length}
 use borrow.Author.Tests.{le-ltb}
+use Rattle.prelude.specs.Lists.{fronted}
 use Rattle.logic.specs.Structure.{Structure, codes}
 use Rattle.layout.specs.Layout.{empty}
 use Rattle.layout.proofs.Encoding.{nothing-read}
+use Rattle.layout.proofs.Written.{encode-empty}
 use Rattle.tables.specs.Layout.{WellLaid}
 use Rattle.tables.specs.Tests.{wellLaid}
 use Rattle.tables.specs.declared.Judgement.the-variants as judgements
@@ -20,6 +24,10 @@ use Rattle.forced.specs.declared.Forcing.the-variants as forcings
 use Rattle.group.proofs.Replies.{absent}
 use Rattle.answer.specs.Answer.{answer, solves}
 use Rattle.answer.proofs.Demand.{accepted-demand}
+use Rattle.fitted_sheet.specs.FittedSheet.{fittedSheet}
+use Rattle.fitted.specs.Filing.{Filing, filed, outcome, fits, fitting, bufferIn, bufferAfter}
+use Rattle.fitted.specs.declared.Fitting.the-variants as fittings
+use Rattle.fitted.proofs.Filings.{outcome-short, outcome-long}
 use Rattle.worked.specs.Worked.{row15, Shown, Shows}
 use Rattle.worked.specs.EmptySheet.{OneCandidate, emptyEntry, EmptySheet}
 use Rattle.worked.proofs.Worked.{worked}
@@ -86,6 +94,27 @@ no-name t f = rw nothing-read (rw (le-ltb f 0 (omega arith)) (go (wellLaid empty
     go true = refl
     go false = refl
 
+-- the fitted sheet of no answer's tables has no record
+nothing-filed : (room : ℕ) → 2161 ≤ room → outcome [] room ≡ filed empty
+unfolding fittedSheet
+nothing-filed room h = outcome-long [] empty (some emptyEntry) room nothing-read h empty-answer
+
+written : (room : ℕ) → 2161 ≤ room → fitting [] room ≡ fittings.Written 0
+unfolding fitting
+written room h = ap fits (nothing-filed room h) ∙ ap (λ (l : List ℕ). fittings.Written (length l)) encode-empty
+
+short : (room : ℕ) → room < 2161 → fitting [] room ≡ fittings.Refused 10 0
+unfolding fitting
+short room h = ap fits (outcome-short [] empty room nothing-read h)
+
+untouched : (out : List ℕ) → bufferAfter [] out ≡ out
+unfolding bufferAfter
+untouched out =
+    elim (decLt (length out) 2161) [
+      | yes h ↦ ap (λ (x : Filing). bufferIn x out) (outcome-short [] empty (length out) nothing-read h)
+      | no h ↦ ap (λ (x : Filing). bufferIn x out) (nothing-filed (length out) (omega arith)) ∙ ap (λ (l : List ℕ). fronted l out) encode-empty
+    ]
+
 -- THEOREM: the sheet of zero bytes
 pub empty-sheet : EmptySheet
 empty-sheet =
@@ -102,4 +131,7 @@ empty-sheet =
       forced = no-expression;
       group = λ e. absent [] empty nothing-read e (omega arith);
       table = no-name;
+      fitted = written;
+      short = short;
+      buffer = untouched;
     }

@@ -1,11 +1,12 @@
 -- Interface. The sheet of zero bytes, a block without an agreement yet, question by question. Every definition and theorem covers it as it covers any other
 -- sheet: it has no field, so it has one candidate, without sizes and without tables, and that is its answer.
-use Prim.Native.Nat.{ℕ}
+use Prim.Native.Nat.{ℕ, _≤_, _<_}
 use mathlib.Core.Path.{_≡_}
 use mathlib.Core.Logic.{_↔_}
 use mathlib.Core.List.{List, []}
 use mathlib.Core.Option.{some}
 use lib.ListN.{length}
+use Rattle.prelude.specs.Limits.{mostSheetBytes}
 use Rattle.logic.specs.Structure.{Structure, Candidate, Satisfies, codes}
 use Rattle.logic.specs.Order.{sizesOf, sumOf}
 use Rattle.layout.specs.Layout.{accepted, reading, empty}
@@ -20,6 +21,8 @@ use Rattle.answer.specs.Answer.{Entry, answer}
 use Rattle.answer.specs.Demand.{Demand}
 use Rattle.finder.specs.Find.{finding, codesAfter, tablesAfter}
 use Rattle.finder.specs.declared.Finding.the-variants.{Found}
+use Rattle.fitted.specs.Filing.{fitting, bufferAfter}
+use Rattle.fitted.specs.declared.Fitting.the-variants as fittings
 
 -- Every structure is a candidate and satisfies every statement. In what the sheet speaks of they are all one: no sizes, which sum to 0, no codes and no
 -- tables.
@@ -52,3 +55,7 @@ pub record EmptySheet : Type 0 where
   pub forced : (a b : ℕ) → forcing [] a b ≡ forcings.Refused 13 0
   pub group : (e : ℕ) → grouping [] e ≡ groupings.Refused 13 0
   pub table : (t : List ℕ) (f : ℕ) → tableOf [] t f ≡ nowhere
+  -- fitted writes zero bytes, and wants its buffer all the same
+  pub fitted : (room : ℕ) → mostSheetBytes ≤ room → fitting [] room ≡ fittings.Written 0
+  pub short : (room : ℕ) → room < mostSheetBytes → fitting [] room ≡ fittings.Refused 10 0
+  pub buffer : (out : List ℕ) → bufferAfter [] out ≡ out

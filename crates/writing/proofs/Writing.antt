@@ -1,14 +1,13 @@
 -- The tables of an answer written one stretch after the other: each is the whole table of its symbol. Throughout, the buffer holds the answer's bytes
 -- up to the offset of the next table and behind it what stood there.
-use Prim.Native.Nat.{ℕ, suc, _+_, _-_, _*_, _≤_, _<_}
+use Prim.Native.Nat.{ℕ, _+_, _-_, _*_, _≤_, _<_}
 use native.Mathlib.Omega.{arith}
 use native.Mathlib.Decide.{decLt}
 use native.Mathlib.Nat.{add-zero}
 use native.Mathlib.Numerals.{add-one}
 use mathlib.Core.Path.{_≡_, refl, ap, ap₂, sym, _∙_, fun-ext}
-use mathlib.Core.List.{List, [], _∷_, _++_, append-assoc}
+use mathlib.Core.List.{List, _∷_, _++_, append-assoc}
 use mathlib.Core.Option.{Option·getD}
-use mathlib.Core.Bool.{cond}
 use lib.ListN.{length, take, drop, take-append-drop, List·getD-eq-default}
 use lib.Seq.{take-at, drop-at, drop-drop, length-take-le}
 use borrow.Rule.Slice.PartMut.{putMid, same-len-mid, mid-len}
@@ -18,55 +17,22 @@ use Rattle.prelude.specs.Lists.{at, firsts, fronted}
 use Rattle.prelude.proofs.Lists.{length-firsts, at-firsts, firsts-same, sumTo-grows, each-more}
 use Rattle.logic.specs.Structure.{Structure, InSorts}
 use Rattle.logic.specs.WellFormed.{WellFormed}
-use lib.Dec.{ltb}
 use Rattle.layout.specs.Packed.{first, second, view}
 use Rattle.layout.specs.declared.Parsed.{Parsed}
 use Rattle.tables.specs.Layout.{cells, offset, extent, tableBytes}
 use Rattle.tables.specs.Grid.{grid, cell}
 use Rattle.tables.specs.Parts.{Packs, Extents, Limited, width}
 use Rattle.tables.proofs.Whole.{packs-limited}
-use Rattle.tables.proofs.Grids.{length-grid, in-grid, grid-is-table}
+use Rattle.tables.proofs.Grids.{length-grid, in-grid, in-sorts-length, cell-codes, grid-is-table}
 use Rattle.tables.proofs.Tables.{length-encoded, encoded-sizes, encoded-more, encoded-whole}
 use Rattle.tables.proofs.Packing.{packs-views, param0-packed, param1-packed, params-below-8, cells-packed, symbols-packed}
 use Rattle.tables.proofs.Offsets.{offset-same}
-use Rattle.tables.proofs.Widths.{width-there}
+use Rattle.tables.proofs.Widths.{widths-same, width-small}
 use Rattle.answer.specs.Answer.{Entry, entryOf, structureOf, cellsFrom, unforced}
 use Rattle.answer.specs.Answer as Answer
 use Rattle.writing.specs.Written.{unforcedAt, Writable, answerBytes}
 use Rattle.writing.specs.Parts.{rowOf, columnOf, Filled, held}
 use Rattle.writing.proofs.Reach.{cell-held}
-
-in-sorts-length : (size : ℕ → ℕ) (params xs : List ℕ) → InSorts size params xs → length xs ≡ length params
-in-sorts-length size [] [] i = refl
-in-sorts-length size [] (x ∷ xs) i = absurd i
-in-sorts-length size (s ∷ ss) [] i = absurd i
-in-sorts-length size (s ∷ ss) (x ∷ xs) i = ap suc (in-sorts-length size ss xs (i .1))
-
--- the argument codes of a cell from its row and its column
-cell-codes : (params xs : List ℕ) → length xs ≡ length params → length params ≤ 2 → take (length params) (rowOf xs ∷ columnOf xs ∷ []) ≡ xs
-cell-codes [] [] e h = refl
-cell-codes [] (x ∷ xs) e h = absurd (omega arith)
-cell-codes (s ∷ ss) [] e h = absurd (omega arith)
-cell-codes (s ∷ []) (x ∷ []) e h = refl
-cell-codes (s ∷ []) (x ∷ y ∷ xs) e h = absurd (omega arith)
-cell-codes (s ∷ r ∷ ss) (x ∷ []) e h = absurd (omega arith)
-cell-codes (s ∷ r ∷ []) (x ∷ y ∷ []) e h = refl
-cell-codes (s ∷ r ∷ []) (x ∷ y ∷ z ∷ xs) e h = absurd (omega arith)
-cell-codes (s ∷ r ∷ q ∷ ss) (x ∷ y ∷ xs) e h = absurd (omega arith)
-
--- widths at sizes that agree
-widths-same :
-    (n : ℕ) (size other : ℕ → ℕ) (params : List ℕ) → Each (λ s. s < n) params → ((s : ℕ) → s < n → size s ≡ other s)
-    → (width size (first params) ≡ width other (first params)) × (width size (second params) ≡ width other (second params))
-widths-same n size other [] e h = (refl, refl)
-widths-same n size other (s ∷ []) e h = (ap (λ (x : ℕ). cond (ltb s 8) x 1) (h s (e .0)), refl)
-widths-same n size other (s ∷ r ∷ l) e h = (ap (λ (x : ℕ). cond (ltb s 8) x 1) (h s (e .0)), ap (λ (x : ℕ). cond (ltb r 8) x 1) (h r (e .1 .0)))
-
--- a parameter's width is at most 16
-width-small : (size : ℕ → ℕ) (params : List ℕ) → Each (λ s. s < 8) params → Each (λ s. size s ≤ 16) params → (width size (first params) ≤ 16) × (width size (second params) ≤ 16)
-width-small size [] b e = (omega arith, omega arith)
-width-small size (s ∷ []) b e = (omega (arith, width-there size s (b .0), e .0), omega arith)
-width-small size (s ∷ r ∷ l) b e = (omega (arith, width-there size s (b .0), e .0), omega (arith, width-there size r (b .1 .0), e .1 .0))
 
 module _ (sh : Sheet) (p : Parsed) (k : Packs sh p) (size c : ℕ → ℕ) (sixteen : (s : ℕ) → s < length (sh .bounds) → size s ≤ 16) (past : (i : ℕ) → length (sh .terms) ≤ i → c i ≡ 0) where
   abbrev w : WellFormed sh

@@ -2,7 +2,7 @@
 use borrow.Author.Needs.{needs}
 use native.Mathlib.Omega.{arith}
 use mathlib.Core.Path.{refl, sym, ap}
-use Rattle.text.proofs.Pasted.{pasted-none}
+use Rattle.prelude.proofs.Pasted.{pasted-none}
 use Rattle.text.proofs.Lines.{renamed}
 use Rattle.lines.specs.Lines.{complaintLine}
 use Rattle.lines.proofs.complaint_line.Statement.{statement}

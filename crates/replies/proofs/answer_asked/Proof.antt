@@ -34,6 +34,9 @@ else4 e = e .before .before .before
 abbrev else5 : tie.Else6 → tie.Else5
 else5 e = e .before .before .before
 
+abbrev else6 : tie.Else7 → tie.Else6
+else6 e = e .before .before .before
+
 not-read : (e : tie.Else1) → sameList (wordAt (line-of e) 0) (ascii "read") ≡ false
 not-read e = told (ascii "read") (e .before .before .before .word .ensures .0) (e .before .same .ensures) (e .if1 .left)
 
@@ -49,8 +52,11 @@ not-forced e = told (ascii "forced") (else1 (else2 (else3 e)) .before .before .b
 not-group : (e : tie.Else5) → sameList (wordAt (line-of (else1 (else2 (else3 (else4 e))))) 0) (ascii "group") ≡ false
 not-group e = told (ascii "group") (else1 (else2 (else3 (else4 e))) .before .before .before .word .ensures .0) (e .before .same5 .ensures) (e .if5 .left)
 
-not-table : (e : tie.Else6) → sameList (wordAt (line-of (else1 (else2 (else3 (else4 (else5 e)))))) 0) (ascii "table") ≡ false
-not-table e = told (ascii "table") (else1 (else2 (else3 (else4 (else5 e)))) .before .before .before .word .ensures .0) (e .before .same6 .ensures) (e .if6 .left)
+not-fitted : (e : tie.Else6) → sameList (wordAt (line-of (else1 (else2 (else3 (else4 (else5 e)))))) 0) (ascii "fitted") ≡ false
+not-fitted e = told (ascii "fitted") (else1 (else2 (else3 (else4 (else5 e)))) .before .before .before .word .ensures .0) (e .before .same6 .ensures) (e .if6 .left)
+
+not-table : (e : tie.Else7) → sameList (wordAt (line-of (else1 (else2 (else3 (else4 (else5 (else6 e))))))) 0) (ascii "table") ≡ false
+not-table e = told (ascii "table") (else1 (else2 (else3 (else4 (else5 (else6 e))))) .before .before .before .word .ensures .0) (e .before .same7 .ensures) (e .if7 .left)
 
 word-requires : tie.Need-word-requires
 word-requires c κs = tt
@@ -155,33 +161,52 @@ slice-aggregate-same-6 c = refl
 same-requires-6 : tie.Need-same-requires-6
 same-requires-6 c κs = tt
 
-table-question-requires : tie.Need-table-question-requires
-table-question-requires c κs = c .before .before .before .before .before .before .before .before .before .before .before .before .before .before .before .before .before .before .before .before .before .before .pre
+fitted-question-requires : tie.Need-fitted-question-requires
+fitted-question-requires c κs = c .before .before .before .before .before .before .before .before .before .before .before .before .before .before .before .before .before .before .before .before .before .before .pre
 
 same-length-6 : tie.Need-same-length-6
-same-length-6 c = c .before .before .table-question .kept .1 .0
+same-length-6 c = c .before .before .fitted-question .kept .1 .0
 
 returns-6 : tie.Need-returns-6
 unfolding asked
 returns-6 c =
     let e = c .before .before .before .before .before .before .before in
-    let is = told (ascii "table") (else1 (else2 (else3 (else4 e))) .before .before .before .word .ensures .0) (c .before .before .before .before .before .same6 .ensures) (c .before .before .before .before .if6 .taken) in
-    rw (not-read (else1 (else2 (else3 (else4 e)))), not-find (else2 (else3 (else4 e))), not-judge (else3 (else4 e)), not-forced (else4 e), not-group e, is) (c .before .before .table-question .ensures)
+    let is = told (ascii "fitted") (else1 (else2 (else3 (else4 e))) .before .before .before .word .ensures .0) (c .before .before .before .before .before .same6 .ensures) (c .before .before .before .before .if6 .taken) in
+    rw (not-read (else1 (else2 (else3 (else4 e)))), not-find (else2 (else3 (else4 e))), not-judge (else3 (else4 e)), not-forced (else4 e), not-group e, is) (c .before .before .fitted-question .ensures)
+
+slice-aggregate-same-7 : tie.Need-slice-aggregate-same-7
+slice-aggregate-same-7 c = refl
+
+same-requires-7 : tie.Need-same-requires-7
+same-requires-7 c κs = tt
+
+table-question-requires : tie.Need-table-question-requires
+table-question-requires c κs = c .before .before .before .before .before .before .before .before .before .before .before .before .before .before .before .before .before .before .before .before .before .before .before .before .before .pre
+
+same-length-7 : tie.Need-same-length-7
+same-length-7 c = c .before .before .table-question .kept .1 .0
+
+returns-7 : tie.Need-returns-7
+unfolding asked
+returns-7 c =
+    let e = c .before .before .before .before .before .before .before in
+    let is = told (ascii "table") (else1 (else2 (else3 (else4 (else5 e)))) .before .before .before .word .ensures .0) (c .before .before .before .before .before .same7 .ensures) (c .before .before .before .before .if7 .taken) in
+    rw (not-read (else1 (else2 (else3 (else4 (else5 e))))), not-find (else2 (else3 (else4 (else5 e)))), not-judge (else3 (else4 (else5 e))), not-forced (else4 (else5 e)), not-group (else5 e), not-fitted e, is) (c .before .before .table-question .ensures)
 
 slice-aggregate-put : tie.Need-slice-aggregate-put
 slice-aggregate-put c = refl
 
 put-requires : tie.Need-put-requires
-put-requires c κs = omega (arith, c .before .before .before .before .before .before .before .before .before .before .before .before .before .before .before .before .before .before .before .before .before .before .before .pre .1)
+put-requires c κs = omega (arith, c .before .before .before .before .before .before .before .before .before .before .before .before .before .before .before .before .before .before .before .before .before .before .before .before .before .before .pre .1)
 
-same-length-7 : tie.Need-same-length-7
-same-length-7 c = c .before .before .put .kept .0
+same-length-8 : tie.Need-same-length-8
+same-length-8 c = c .before .before .put .kept .0
 
-returns-7 : tie.Need-returns-7
+returns-8 : tie.Need-returns-8
 unfolding asked
-returns-7 c =
+returns-8 c =
     let e = c .before .before .before .before .before in
-    rw (not-read (else1 (else2 (else3 (else4 (else5 e))))), not-find (else2 (else3 (else4 (else5 e)))), not-judge (else3 (else4 (else5 e))), not-forced (else4 (else5 e)), not-group (else5 e), not-table e) (c .before .before .put .ensures)
+    rw (not-read (else1 (else2 (else3 (else4 (else5 (else6 e)))))), not-find (else2 (else3 (else4 (else5 (else6 e))))), not-judge (else3 (else4 (else5 (else6 e)))), not-forced (else4 (else5 (else6 e))), not-group (else5 (else6 e)), not-fitted (else6 e), not-table e) (c .before .before .put .ensures)
 
 pub answer-asked-spec : {M : Type 1} → statement M
 answer-asked-spec =
@@ -215,10 +240,15 @@ answer-asked-spec =
     returns-5
     slice-aggregate-same-6
     same-requires-6
-    table-question-requires
+    fitted-question-requires
     same-length-6
     returns-6
+    slice-aggregate-same-7
+    same-requires-7
+    table-question-requires
+    same-length-7
+    returns-7
     slice-aggregate-put
     put-requires
-    same-length-7
-    returns-7)
+    same-length-8
+    returns-8)

@@ -4,7 +4,7 @@ use native.Mathlib.Omega.{arith}
 use mathlib.Core.List.{[], _∷_}
 use Rattle.text.specs.Text.{spaced}
 use Rattle.text.proofs.Decimal.{length-spaced-one, decimal-word}
-use Rattle.text.proofs.Pasted.{wrote-four}
+use Rattle.prelude.proofs.Pasted.{wrote-four}
 use Rattle.text.proofs.Lines.{line-more}
 use Rattle.text.proofs.pair_line.Statement.{statement}
 use Rattle.text.proofs.pair_line.Tie as tie

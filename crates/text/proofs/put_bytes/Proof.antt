@@ -3,7 +3,7 @@ use borrow.Author.Needs.{needs}
 use Prim.Native.Nat.{ℕ}
 use mathlib.Core.Path.{ap, sym}
 use mathlib.Core.List.{List, _∷_}
-use Rattle.text.proofs.Pasted.{wrote-both}
+use Rattle.prelude.proofs.Pasted.{wrote-both}
 use Rattle.text.proofs.Lines.{renamed}
 use Rattle.text.proofs.Hex.{shown-none, shown-some}
 use Rattle.text.proofs.put_bytes.Statement.{statement}

@@ -3,7 +3,7 @@ use borrow.Author.Needs.{needs}
 use native.Mathlib.Omega.{arith}
 use mathlib.Core.List.{[], _∷_}
 use Rattle.text.proofs.Decimal.{length-spaced-one}
-use Rattle.text.proofs.Pasted.{wrote-length, wrote-then}
+use Rattle.prelude.proofs.Pasted.{wrote-length, wrote-then}
 use Rattle.text.proofs.Lines.{spaced-one}
 use Rattle.text.proofs.put_spaced.Statement.{statement}
 use Rattle.text.proofs.put_spaced.Tie as tie

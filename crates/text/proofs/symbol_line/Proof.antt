@@ -7,7 +7,7 @@ use mathlib.Core.List.{[], _∷_}
 use lib.ListN.{length}
 use Rattle.text.specs.Text.{decimal, spaced, nameWord}
 use Rattle.text.proofs.Decimal.{length-spaced-one, decimal-word}
-use Rattle.text.proofs.Pasted.{wrote-four}
+use Rattle.prelude.proofs.Pasted.{wrote-four}
 use Rattle.text.proofs.Lines.{line-more}
 use Rattle.text.proofs.symbol_line.Statement.{statement}
 use Rattle.text.proofs.symbol_line.Tie as tie

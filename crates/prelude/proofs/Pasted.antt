@@ -8,7 +8,7 @@ use mathlib.Core.List.{List, [], _∷_, _++_, append-assoc, append-nil}
 use lib.ListN.{length, take, drop, set, length-append, length-drop, drop-of-length-le, take-append-drop}
 use lib.Seq.{take-all, take-length, take-at, drop-at, drop-drop, set-split, length-take-le}
 use borrow.Rule.Slice.PartMut.{putMid, midOf}
-use Rattle.text.specs.Text.{pasted, Wrote}
+use Rattle.prelude.specs.Pasted.{pasted, Wrote}
 
 pub length-pasted : (d : List ℕ) (i : ℕ) (s : List ℕ) → i + length s ≤ length d → length (pasted d i s) ≡ length d
 length-pasted d i s h =
@@ -58,6 +58,9 @@ pasted-tail d i s h =
       drop-of-length-le (drop i d) (le-of-eq (length-drop i d)),
       append-nil,
     )
+
+pub wrote-none : (d : List ℕ) (i : ℕ) → i ≤ length d → Wrote d i [] d i
+wrote-none d i h = record { end = omega arith; within = h; held = sym (pasted-none d i) }
 
 -- two writings, one behind the other
 module _ (d : List ℕ) (i : ℕ) (s d′ : List ℕ) (e : ℕ) (room : i + length s ≤ length d) (w : Wrote d i s d′ e) where

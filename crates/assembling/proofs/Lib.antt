@@ -1,0 +1,5 @@
+pub mod Growing
+pub mod TableCells
+pub mod Stretches
+pub mod Counting
+pub mod Assembling

@@ -1,0 +1,4 @@
+pub mod Sources
+pub mod Filings
+pub mod Filed
+pub mod Rooms

@@ -1,0 +1,1 @@
+// The fitted sheet by definition, and what finding on it gives (specs/, proofs/).
