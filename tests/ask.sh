@@ -20,6 +20,13 @@ expect "the longest line with a carriage return" "refused 12 0" "accepted" < <(p
 expect "a line of a million characters" "? the line is too long" "accepted" < <(digits 1000000; printf '\nread -\n')
 expect "a sheet of 4,096 bytes is read" "refused 3 0" < <(printf 'read '; digits 8192; printf '\n')
 expect "a sheet of 4,097 bytes is not" "refused 1 0" < <(printf 'read '; digits 8194; printf '\n')
+# f of worked sheet 10 leads from 0 to 1 and from 1 to 0: so many times, in the longest line that there is
+walk='walk 020001000110010002000002000200000001000300000200030001000200030001010200040000020200050000010100060010 02000100 0 0 '
+events() {
+    head -c "$1" /dev/zero | sed 's/\x0/01/g'
+}
+expect "a walk of 131,007 events" "trail 131007 $(events 131007 | sed 's/0101/0100/g')" < <(printf '%s' "$walk"; events 131007; echo ' 131007 0')
+expect "a walk of one event more than the trail has bytes" "refused 10 0" < <(printf '%s' "$walk"; events 131007; echo ' 131006 0')
 expect "a carriage return at the end of a line" "accepted" "? not hexadecimal: word 2" "? not hexadecimal: word 2" "? empty line" \
     < <(printf 'read -\r\nread \r\nread -\r\r\n\r\n')
 expect "a last line without a line feed" "accepted" "accepted" < <(printf 'read -\nread -')

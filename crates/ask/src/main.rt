@@ -3,15 +3,14 @@
 use libc::STDERR_FILENO;
 use libc::STDIN_FILENO;
 use libc::STDOUT_FILENO;
+use questions::ANSWER_ROOM;
 ghost use Prim.Native.Nat.{_≤_};
 ghost use lib.ListN.{length};
+ghost use Rattle.questions.specs.Questions.{answerRoom};
 
 // A line that is being read: two characters more than a line may have, so that one that is too long shows even where its last
 // character is a carriage return. What is longer is cut, which changes no answer (`cut-reply` of replies/proofs/LineEnds.antt).
 const HELD: usize = 262146;
-
-// An answer: the longest is that of find with all of its tables.
-const ANSWER: usize = 65536;
 
 // What is left when the lines of a part were answered: how much of a line is held, and whether to go on.
 struct Rest {
@@ -35,7 +34,7 @@ fn append(line: &mut [u8], held: usize, part: &[u8]) -> usize
 
 // Answers a line of which this much is held; false where the answer cannot be written.
 fn answer_held(line: &[u8], held: usize, out: &mut [u8]) -> bool
-    requires { ⌜ (held ≤ length (now line)) × (65536 ≤ length (now out)) ⌝ }
+    requires { ⌜ (held ≤ length (now line)) × (answerRoom ≤ length (now out)) ⌝ }
 {
     let n = replies::answer(&line[..held], out);
     if io::write_all(STDOUT_FILENO, &out[..n]) {
@@ -47,7 +46,7 @@ fn answer_held(line: &[u8], held: usize, out: &mut [u8]) -> bool
 
 // Answers the lines that end in a part of the input, and holds what is behind the last line feed.
 fn take_lines(part: &[u8], line: &mut [u8], before: usize, out: &mut [u8]) -> Rest
-    requires { ⌜ (before ≤ length (now line)) × (65536 ≤ length (now out)) ⌝ }
+    requires { ⌜ (before ≤ length (now line)) × (answerRoom ≤ length (now out)) ⌝ }
     ensures { λ r. ⌜ r .held ≤ length (now (line .entry)) ⌝ }
 {
     let mut held = before;
@@ -68,7 +67,7 @@ fn take_lines(part: &[u8], line: &mut [u8], before: usize, out: &mut [u8]) -> Re
 }
 
 // Reads once, and answers the lines that end in what was read; at the end of the input, a last line without a line feed.
-fn turn(line: &mut [u8; HELD], held: usize, out: &mut [u8; ANSWER]) -> Rest
+fn turn(line: &mut [u8; HELD], held: usize, out: &mut [u8; ANSWER_ROOM]) -> Rest
     requires { ⌜ held ≤ 262146 ⌝ }
     ensures { λ r. ⌜ r .held ≤ 262146 ⌝ }
 {
@@ -90,7 +89,7 @@ fn turn(line: &mut [u8; HELD], held: usize, out: &mut [u8; ANSWER]) -> Rest
 
 fn main() {
     let mut line = [0u8; HELD];
-    let mut out = [0u8; ANSWER];
+    let mut out = [0u8; ANSWER_ROOM];
     let mut held: usize = 0;
     let mut turns: u64 = 18446744073709551615;
     while 0 < turns {

@@ -26,13 +26,13 @@ empty-limited = omega arith
 
 module _ (s : List ℕ) (q : Parsing) (e : q ≡ parsing (reading s)) where
   -- the parsed sheet stands for the accepted one
-  packs : (a : Accepts s q) → Packs (a .sheet) (q .sheet)
-  packs a = record { formed = accepted-well-formed s (a .sheet) (a .reads); same = a .same }
+  pub parsed-packs : (a : Accepts s q) → Packs (a .sheet) (q .sheet)
+  parsed-packs a = record { formed = accepted-well-formed s (a .sheet) (a .reads); same = a .same }
 
   pub parsed-limited : Limited (q .sheet)
   parsed-limited =
       elim (ℕ-discrete (q .number) 0) [
-        | yes z ↦ let a = number-accepted s q e z in packs-limited (a .sheet) (q .sheet) (packs a)
+        | yes z ↦ let a = number-accepted s q e z in packs-limited (a .sheet) (q .sheet) (parsed-packs a)
         | no h ↦ subst Limited (sym (number-refused s q e h .same)) empty-limited
       ]
 
@@ -43,7 +43,7 @@ module _ (s : List ℕ) (q : Parsing) (e : q ≡ parsing (reading s)) where
   unfolding judgement
   judge-accepted t r z h =
       let a = number-accepted s q e z in
-      h (a .sheet) (packs a) ∙ rw (a .reads) refl
+      h (a .sheet) (parsed-packs a) ∙ rw (a .reads) refl
 
   pub table-refused : (t : List ℕ) (f : ℕ) → (q .number ≡ 0 → ⊥) → Spans 0 0 (tableOf s t f)
   unfolding tableOf
@@ -54,5 +54,5 @@ module _ (s : List ℕ) (q : Parsing) (e : q ≡ parsing (reading s)) where
   unfolding tableOf
   table-accepted t f start end z h =
       let a = number-accepted s q e z in
-      let p = h (a .sheet) (packs a) in
+      let p = h (a .sheet) (parsed-packs a) in
       rw (a .reads) (p, omega (arith, p .ends, stretch-within (a .sheet) t f))

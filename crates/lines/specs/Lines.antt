@@ -1,5 +1,5 @@
--- Interface. The answer lines (docs/FORMAT.md, "Asking line by line"), one definition for each kind of answer; those of find and fitted stand
--- with their questions, in replies.
+-- Interface. The answer lines (docs/FORMAT.md, "Asking line by line"), one definition for each kind of answer; those that show bytes, of walk,
+-- find and fitted, stand with their questions, in trails and replies.
 use Prim.Native.Nat.{ℕ}
 use mathlib.Core.Bool.{cond}
 use mathlib.Core.List.{List, [], _∷_}

@@ -1,13 +1,14 @@
--- Laws of a list written into a buffer: its length, two written one behind the other, one byte, and a lent tail that came back.
+-- Laws of a list written into a buffer: its length, what lies around it, two written one behind the other, one byte, and a lent stretch or tail that came back.
 use Prim.Native.Nat.{ℕ, _+_, _-_, _≤_, _<_}
 use native.Mathlib.Nat.{le-of-eq, add-zero, add-assoc}
 use native.Mathlib.Numerals.{add-one}
 use native.Mathlib.Omega.{arith}
-use mathlib.Core.Path.{_≡_, sym, ap, _∙_}
+use mathlib.Core.Path.{_≡_, refl, sym, ap, _∙_}
 use mathlib.Core.List.{List, [], _∷_, _++_, append-assoc, append-nil}
 use lib.ListN.{length, take, drop, set, length-append, length-drop, drop-of-length-le, take-append-drop}
-use lib.Seq.{take-all, take-length, take-at, drop-at, drop-drop, set-split, length-take-le}
+use lib.Seq.{take-all, take-length, take-at, drop-at, drop-drop, set-split, length-take-le, getD-take, getD-drop}
 use borrow.Rule.Slice.PartMut.{putMid, midOf}
+use Rattle.prelude.specs.Lists.{at}
 use Rattle.prelude.specs.Pasted.{pasted, Wrote}
 
 pub length-pasted : (d : List ℕ) (i : ℕ) (s : List ℕ) → i + length s ≤ length d → length (pasted d i s) ≡ length d
@@ -24,13 +25,31 @@ front d i s h =
     ap (take (i + length s)) (sym (append-assoc (take i d) s (drop (i + length s) d)))
     ∙ take-at (take i d ++ s) (drop (i + length s) d) (i + length s) (simp (length-append, length-take-le i d (omega arith)))
 
+pub pasted-behind : (d : List ℕ) (i : ℕ) (s : List ℕ) → i + length s ≤ length d → drop (i + length s) (pasted d i s) ≡ drop (i + length s) d
+pasted-behind d i s h =
+    ap (drop (i + length s)) (sym (append-assoc (take i d) s (drop (i + length s) d)))
+    ∙ drop-at (take i d ++ s) (drop (i + length s) d) (i + length s) (simp (length-append, length-take-le i d (omega arith)))
+
 behind : (d : List ℕ) (i : ℕ) (s : List ℕ) (n : ℕ) → i + length s ≤ length d → drop (i + length s + n) (pasted d i s) ≡ drop (i + length s + n) d
 behind d i s n h =
     sym (drop-drop n (i + length s) (pasted d i s))
-    ∙ ap (drop n)
-    (ap (drop (i + length s)) (sym (append-assoc (take i d) s (drop (i + length s) d)))
-    ∙ drop-at (take i d ++ s) (drop (i + length s) d) (i + length s) (simp (length-append, length-take-le i d (omega arith))))
+    ∙ ap (drop n) (pasted-behind d i s h)
     ∙ drop-drop n (i + length s) d
+
+-- what lies before it, and the list itself
+pub pasted-before : (d : List ℕ) (i : ℕ) (s : List ℕ) → i ≤ length d → take i (pasted d i s) ≡ take i d
+pasted-before d i s h = take-at (take i d) (s ++ drop (i + length s) d) i (length-take-le i d h)
+
+pub pasted-there : (d : List ℕ) (i : ℕ) (s : List ℕ) → i ≤ length d → take (length s) (drop i (pasted d i s)) ≡ s
+pasted-there d i s h =
+    ap (take (length s)) (drop-at (take i d) (s ++ drop (i + length s) d) i (length-take-le i d h))
+    ∙ take-at s (drop (i + length s) d) (length s) refl
+
+pub at-pasted : (d : List ℕ) (i : ℕ) (s : List ℕ) (k : ℕ) → i ≤ length d → k < length s → at (pasted d i s) (i + k) ≡ at s k
+at-pasted d i s k h l =
+    sym (getD-drop i (pasted d i s) k 0)
+    ∙ sym (getD-take (length s) (drop i (pasted d i s)) k 0 l)
+    ∙ ap (λ (x : List ℕ). at x k) (pasted-there d i s h)
 
 -- a list behind another is their concatenation
 pub pasted-more :
@@ -45,6 +64,12 @@ pasted-more d i s t h =
 -- nothing written
 pub pasted-none : (d : List ℕ) (i : ℕ) → pasted d i [] ≡ d
 pasted-none d i = ap (λ (n : ℕ). take i d ++ drop n d) (add-zero i) ∙ take-append-drop i d
+
+-- a list that fills a lent stretch that came back
+pub pasted-stretch : (d : List ℕ) (i e : ℕ) (s : List ℕ) → e ≡ i + length s → putMid i (e - i) d s ≡ pasted d i s
+pasted-stretch d i e s h =
+    let n : i + (e - i) ≡ i + length s = omega arith in
+    ap (λ (l : List ℕ). take i d ++ (s ++ l)) (drop-drop (e - i) i d ∙ ap (λ (m : ℕ). drop m d) n)
 
 -- a list written at the front of a lent tail that came back
 pub pasted-tail :

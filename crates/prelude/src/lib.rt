@@ -1,7 +1,7 @@
-// What several crates use: the numbers of the format, a byte as a number, each number at its own place, and the tests and lists of numbers
-// that definitions are made of, with their laws (specs/, proofs/).
+// What several crates use: the numbers of the format, a byte as a number, the lesser of two numbers, each number at its own place, and the tests
+// and lists of numbers that definitions are made of, with their laws (specs/, proofs/).
 ghost use mathlib.Core.Path.{_≡_};
-ghost use Prim.Native.Nat.{ℕ, _<_};
+ghost use Prim.Native.Nat.{ℕ, _<_, min};
 ghost use Rattle.prelude.specs.Lists.{at};
 ghost use Rattle.prelude.specs.Limits.{mostTerms};
 
@@ -43,6 +43,13 @@ pub fn wide(x: u8) -> usize
     ensures { λ r. ⌜ (r ≡ x) × (r < 256) ⌝ }
 {
     x as usize
+}
+
+// The lesser of two numbers.
+pub fn lesser(a: usize, b: usize) -> usize
+    ensures { λ r. ⌜ r ≡ min a b ⌝ }
+{
+    if a < b { a } else { b }
 }
 
 // Each number at its own place.

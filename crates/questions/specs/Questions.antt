@@ -12,6 +12,13 @@ use Rattle.forced.specs.Forcing.{forcing}
 use Rattle.group.specs.Grouping.{grouping}
 use Rattle.lines.specs.Lines.{complaintLine, verdictLine, judgementLine, forcingLine, groupingLine, stretchLine}
 
+-- the most bytes that the words of a line can stand for, and room for every answer line
+abbrev pub mostDecoded : ℕ
+mostDecoded = 131072
+
+abbrev pub answerRoom : ℕ
+answerRoom = 264192
+
 -- the bytes and the number of word k, the verb being word 0
 abbrev pub bytesAt : List ℕ → ℕ → List ℕ
 bytesAt line k = bytesOf (wordAt line k)

@@ -1,5 +1,5 @@
-// The questions of `ask` that need no search: read, judge, forced, group and table of a name, one function for each verb. Each answers a line that has its
-// verb, in front of a lent buffer, and gives the answer line's length.
+// The questions of `ask` that need no search: read, judge, forced, group and table of a name, one function for each verb (walk has a crate of its own, trails).
+// Each answers a line that has its verb, in front of a lent buffer, and gives the answer line's length.
 use lines::complaint_line;
 use lines::forcing_line;
 use lines::grouping_line;
@@ -14,14 +14,17 @@ use words::wrong_with;
 ghost use Prim.Native.Nat.{_≤_};
 ghost use lib.ListN.{length};
 ghost use Rattle.prelude.specs.Pasted.{Wrote};
-ghost use Rattle.questions.specs.Questions.{readReply, judgeReply, forcedReply, groupReply, tableReply};
+ghost use Rattle.questions.specs.Questions.{answerRoom, readReply, judgeReply, forcedReply, groupReply, tableReply};
 
 // The most bytes that the words of a line can stand for.
 pub const MOST_DECODED: usize = 131072;
 
+// Room for every answer line: the longest is that of walk, which shows two digits for each event.
+pub const ANSWER_ROOM: usize = 264192;
+
 // read SHEET
 pub fn read_question(line: &[u8], out: &mut [u8]) -> usize
-    requires { ⌜ (length (now line) ≤ 262144) × (65536 ≤ length (now out)) ⌝ }
+    requires { ⌜ (length (now line) ≤ 262144) × (answerRoom ≤ length (now out)) ⌝ }
     ensures { λ r. ⌜ Wrote (now (out .entry)) 0 (readReply (now (line .entry))) (now (out .exit)) r ⌝ }
 {
     let wrong = wrong_with(line, b"b");
@@ -35,7 +38,7 @@ pub fn read_question(line: &[u8], out: &mut [u8]) -> usize
 
 // judge SHEET TABLES
 pub fn judge_question(line: &[u8], out: &mut [u8]) -> usize
-    requires { ⌜ (length (now line) ≤ 262144) × (65536 ≤ length (now out)) ⌝ }
+    requires { ⌜ (length (now line) ≤ 262144) × (answerRoom ≤ length (now out)) ⌝ }
     ensures { λ r. ⌜ Wrote (now (out .entry)) 0 (judgeReply (now (line .entry))) (now (out .exit)) r ⌝ }
 {
     let wrong = wrong_with(line, b"bb");
@@ -51,7 +54,7 @@ pub fn judge_question(line: &[u8], out: &mut [u8]) -> usize
 
 // forced SHEET A B
 pub fn forced_question(line: &[u8], out: &mut [u8]) -> usize
-    requires { ⌜ (length (now line) ≤ 262144) × (65536 ≤ length (now out)) ⌝ }
+    requires { ⌜ (length (now line) ≤ 262144) × (answerRoom ≤ length (now out)) ⌝ }
     ensures { λ r. ⌜ Wrote (now (out .entry)) 0 (forcedReply (now (line .entry))) (now (out .exit)) r ⌝ }
 {
     let wrong = wrong_with(line, b"bnn");
@@ -67,7 +70,7 @@ pub fn forced_question(line: &[u8], out: &mut [u8]) -> usize
 
 // group SHEET E
 pub fn group_question(line: &[u8], out: &mut [u8]) -> usize
-    requires { ⌜ (length (now line) ≤ 262144) × (65536 ≤ length (now out)) ⌝ }
+    requires { ⌜ (length (now line) ≤ 262144) × (answerRoom ≤ length (now out)) ⌝ }
     ensures { λ r. ⌜ Wrote (now (out .entry)) 0 (groupReply (now (line .entry))) (now (out .exit)) r ⌝ }
 {
     let wrong = wrong_with(line, b"bn");
@@ -82,7 +85,7 @@ pub fn group_question(line: &[u8], out: &mut [u8]) -> usize
 
 // table SHEET TABLES NAME
 pub fn table_question(line: &[u8], out: &mut [u8]) -> usize
-    requires { ⌜ (length (now line) ≤ 262144) × (65536 ≤ length (now out)) ⌝ }
+    requires { ⌜ (length (now line) ≤ 262144) × (answerRoom ≤ length (now out)) ⌝ }
     ensures { λ r. ⌜ Wrote (now (out .entry)) 0 (tableReply (now (line .entry))) (now (out .exit)) r ⌝ }
 {
     let wrong = wrong_with(line, b"bbn");

@@ -1,2 +1,3 @@
 pub mod WrongPrograms
 pub mod WrongFitted
+pub mod WrongWalk

@@ -15,6 +15,7 @@ use Rattle.finder.specs.Find.{Outcome, turnedDown, answered, outcome}
 use Rattle.fitted.specs.Filing.{Filing, turnedDown as Filing·turnedDown, filed, outcome as Filing·outcome}
 use Rattle.lines.specs.Lines.{refusalLine, emptyLine, longLine, unknownLine}
 use Rattle.questions.specs.Questions.{bytesAt, numberAt, unlessWrong, readReply, judgeReply, forcedReply, groupReply, tableReply}
+use Rattle.trails.specs.Trails.{walkReply}
 
 -- the answer line of find
 abbrev pub findLine : Outcome → List ℕ
@@ -43,7 +44,8 @@ verbReply verb line =
     (cond (sameList verb (ascii "forced")) (forcedReply line)
     (cond (sameList verb (ascii "group")) (groupReply line)
     (cond (sameList verb (ascii "fitted")) (fittedReply line)
-    (cond (sameList verb (ascii "table")) (tableReply line) unknownLine))))))
+    (cond (sameList verb (ascii "table")) (tableReply line)
+    (cond (sameList verb (ascii "walk")) (walkReply line) unknownLine)))))))
 
 unfoldable pub asked : List ℕ → List ℕ
 asked line = verbReply (wordAt line 0) line

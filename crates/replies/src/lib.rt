@@ -6,6 +6,7 @@ use layout::Parsed;
 use lines::complaint_line;
 use prelude::MOST_SHEET_BYTES;
 use prelude::MOST_TERMS;
+use prelude::lesser;
 use prelude::wide;
 use questions::MOST_DECODED;
 use questions::forced_question;
@@ -13,13 +14,14 @@ use questions::group_question;
 use questions::judge_question;
 use questions::read_question;
 use questions::table_question;
+use trails::walk_question;
 use words::decode;
 use words::is_wrong;
 use words::number;
 use words::same;
 use words::word;
 use words::wrong_with;
-ghost use Prim.Native.Nat.{_≤_, min};
+ghost use Prim.Native.Nat.{_≤_};
 ghost use mathlib.Core.Path.{_≡_};
 ghost use lib.ListN.{length};
 ghost use Rattle.logic.specs.Sheet.{Sheet};
@@ -30,6 +32,7 @@ ghost use Rattle.tables.specs.Parts.{Packs, Limited};
 ghost use Rattle.finder.specs.Find.{outcome, ReadFrom};
 ghost use Rattle.fitted.specs.Filing.{outcome as Filing·outcome};
 ghost use Rattle.prelude.specs.Pasted.{Wrote};
+ghost use Rattle.questions.specs.Questions.{answerRoom};
 ghost use Rattle.replies.specs.Reply.{reply, withoutReturn, asked, findLine, findReply, fittedLine, fittedReply};
 
 // The most characters that a line may have.
@@ -37,7 +40,7 @@ const MOST_CHARACTERS: usize = 262144;
 
 // The answer line of a line, in front of the buffer: its length.
 pub fn answer(line: &[u8], out: &mut [u8]) -> usize
-    requires { ⌜ 65536 ≤ length (now out) ⌝ }
+    requires { ⌜ answerRoom ≤ length (now out) ⌝ }
     ensures { λ r. ⌜ Wrote (now (out .entry)) 0 (reply (now (line .entry))) (now (out .exit)) r ⌝ }
 {
     let s = without_return(line);
@@ -66,7 +69,7 @@ fn without_return(line: &[u8]) -> &[u8]
 
 // The answer to a line that has a verb.
 fn answer_asked(line: &[u8], out: &mut [u8]) -> usize
-    requires { ⌜ (length (now line) ≤ 262144) × (65536 ≤ length (now out)) ⌝ }
+    requires { ⌜ (length (now line) ≤ 262144) × (answerRoom ≤ length (now out)) ⌝ }
     ensures { λ r. ⌜ Wrote (now (out .entry)) 0 (asked (now (line .entry))) (now (out .exit)) r ⌝ }
 {
     let verb = word(line, 0);
@@ -91,12 +94,15 @@ fn answer_asked(line: &[u8], out: &mut [u8]) -> usize
     if same(verb, b"table") {
         return table_question(line, out);
     }
+    if same(verb, b"walk") {
+        return walk_question(line, out);
+    }
     text::put(out, 0, b"? unknown verb\n")
 }
 
 // find SHEET CODELEN TABLELEN
 fn find_question(line: &[u8], out: &mut [u8]) -> usize
-    requires { ⌜ (length (now line) ≤ 262144) × (65536 ≤ length (now out)) ⌝ }
+    requires { ⌜ (length (now line) ≤ 262144) × (answerRoom ≤ length (now out)) ⌝ }
     ensures { λ r. ⌜ Wrote (now (out .entry)) 0 (findReply (now (line .entry))) (now (out .exit)) r ⌝ }
 {
     let wrong = wrong_with(line, b"bnn");
@@ -112,7 +118,7 @@ fn find_question(line: &[u8], out: &mut [u8]) -> usize
 
 // Finds with buffers of these lengths; a longer one than find can need makes no difference.
 fn find_with(sheet: &[u8], many_codes: usize, many_tables: usize, out: &mut [u8]) -> usize
-    requires { ⌜ 65536 ≤ length (now out) ⌝ }
+    requires { ⌜ answerRoom ≤ length (now out) ⌝ }
     ensures { λ r. ⌜ Wrote (now (out .entry)) 0 (findLine (outcome (now (sheet .entry)) «many_codes» «many_tables»)) (now (out .exit)) r ⌝ }
 {
     let mut codes = [0u8; MOST_TERMS];
@@ -122,16 +128,9 @@ fn find_with(sheet: &[u8], many_codes: usize, many_tables: usize, out: &mut [u8]
     find_into(sheet, &mut codes[..c], &mut tables[..t], out)
 }
 
-// The lesser of two numbers.
-fn lesser(a: usize, b: usize) -> usize
-    ensures { λ r. ⌜ r ≡ min a b ⌝ }
-{
-    if a < b { a } else { b }
-}
-
 // Finds into these buffers, and shows what stands in them then.
 fn find_into(sheet: &[u8], codes: &mut [u8], tables: &mut [u8], out: &mut [u8]) -> usize
-    requires { ⌜ (length (now codes) ≤ 128) × (length (now tables) ≤ 16392) × (65536 ≤ length (now out)) ⌝ }
+    requires { ⌜ (length (now codes) ≤ 128) × (length (now tables) ≤ 16392) × (answerRoom ≤ length (now out)) ⌝ }
     ensures { λ r. ⌜ Wrote (now (out .entry)) 0 (findLine (outcome (now (sheet .entry)) (length (now (codes .entry))) (length (now (tables .entry))))) (now (out .exit)) r ⌝ }
 {
     let parsing = sheet::parse(sheet);
@@ -147,7 +146,7 @@ fn find_into(sheet: &[u8], codes: &mut [u8], tables: &mut [u8], out: &mut [u8]) 
 // The same of a sheet that was read.
 fn find_read(p: Parsed, codes: &mut [u8], tables: &mut [u8], out: &mut [u8]) -> usize
     requires { ⌜ ReadFrom p ⌝ }
-    requires { ⌜ (length (now codes) ≤ 128) × (length (now tables) ≤ 16392) × (65536 ≤ length (now out)) ⌝ }
+    requires { ⌜ (length (now codes) ≤ 128) × (length (now tables) ≤ 16392) × (answerRoom ≤ length (now out)) ⌝ }
     ensures { λ r. ⌜ ((q : ReadFrom p) → Wrote (now (out .entry)) 0 (findLine (outcome (q .bytes) (length (now (codes .entry))) (length (now (tables .entry))))) (now (out .exit)) r) ⌝ }
 {
     let found = finder::find_parsed(p, codes, tables);
@@ -175,7 +174,7 @@ fn written(p: Parsed, tables: &[u8]) -> usize
 
 // fitted SHEET BUFLEN
 fn fitted_question(line: &[u8], out: &mut [u8]) -> usize
-    requires { ⌜ (length (now line) ≤ 262144) × (65536 ≤ length (now out)) ⌝ }
+    requires { ⌜ (length (now line) ≤ 262144) × (answerRoom ≤ length (now out)) ⌝ }
     ensures { λ r. ⌜ Wrote (now (out .entry)) 0 (fittedReply (now (line .entry))) (now (out .exit)) r ⌝ }
 {
     let wrong = wrong_with(line, b"bn");
@@ -190,7 +189,7 @@ fn fitted_question(line: &[u8], out: &mut [u8]) -> usize
 
 // Asks fitted with a buffer of this length; a longer one than the longest sheet makes no difference.
 fn fitted_with(sheet: &[u8], room: usize, out: &mut [u8]) -> usize
-    requires { ⌜ 65536 ≤ length (now out) ⌝ }
+    requires { ⌜ answerRoom ≤ length (now out) ⌝ }
     ensures { λ r. ⌜ Wrote (now (out .entry)) 0 (fittedLine (Filing·outcome (now (sheet .entry)) «room»)) (now (out .exit)) r ⌝ }
 {
     let mut buffer = [0u8; MOST_SHEET_BYTES];
@@ -200,7 +199,7 @@ fn fitted_with(sheet: &[u8], room: usize, out: &mut [u8]) -> usize
 
 // Asks fitted with this buffer, and shows the sheet that stands in front of it then.
 fn fitted_into(sheet: &[u8], buffer: &mut [u8], out: &mut [u8]) -> usize
-    requires { ⌜ (length (now buffer) ≤ mostSheetBytes) × (65536 ≤ length (now out)) ⌝ }
+    requires { ⌜ (length (now buffer) ≤ mostSheetBytes) × (answerRoom ≤ length (now out)) ⌝ }
     ensures { λ r. ⌜ Wrote (now (out .entry)) 0 (fittedLine (Filing·outcome (now (sheet .entry)) (length (now (buffer .entry))))) (now (out .exit)) r ⌝ }
 {
     let answer = fitted::fitted(sheet, buffer);

@@ -1,9 +1,12 @@
 -- What the arrays of a parsed sheet hold of the accepted sheet that it packs.
 use Prim.Native.Nat.{ℕ, _*_, _<_}
-use mathlib.Core.Path.{_≡_, sym, subst}
+use native.Mathlib.Omega.{arith}
+use mathlib.Core.Path.{_≡_, ap, sym, subst}
+use mathlib.Core.List.{List, [], _∷_}
 use lib.ListN.{length}
 use Rattle.logic.specs.Sheet.{Sheet, symbolAt}
 use Rattle.prelude.specs.Tests.{Each}
+use Rattle.prelude.specs.Limits.{missing}
 use Rattle.prelude.specs.Lists.{at}
 use Rattle.layout.specs.Packed.{view, first, second}
 use Rattle.layout.specs.Views.{Views}
@@ -14,6 +17,12 @@ use Rattle.tables.specs.Layout.{cells}
 use Rattle.tables.specs.Parts.{Packs, width}
 use Rattle.tables.proofs.Widths.{cells-by-width}
 use Rattle.layout.proofs.Pack.{contents}
+
+-- one parameter, by its place in front of a missing one: no parameter has the number that a missing one has
+pub one-param : (params : List ℕ) (result : ℕ) → Each (λ s. s < 8) params → result < 8 → second params ≡ missing → first params ≡ result → params ≡ result ∷ []
+one-param [] result b h p q = absurd (omega arith)
+one-param (s ∷ []) result b h p q = ap (λ (x : ℕ). x ∷ []) q
+one-param (s ∷ r ∷ l) result b h p q = absurd (omega (arith, b .1 .0))
 
 -- What a parsed sheet holds of the sheet that it packs.
 module _ (sh : Sheet) (p : Parsed) (k : Packs sh p) where

@@ -206,6 +206,27 @@ pub fn width_of(sizes: [u8; MOST_SORTS], s: usize) -> usize
     1
 }
 
+// What the table of symbol f holds at two argument codes, a missing one being 0.
+pub fn entry_of(
+    param1: [u8; MOST_SYMBOLS],
+    sizes: [u8; MOST_SORTS],
+    offsets: [usize; MOST_SYMBOLS + 1],
+    t: &[u8],
+    f: usize,
+    a: usize,
+    b: usize,
+) -> u8
+    requires { ⌜ SmallOffsets offsets × (a < 256) × (b < 256) ⌝ }
+    ensures { λ r. ⌜ (f < mostSymbols → r ≡ at (now (t .entry)) (at offsets f + (a * width (at sizes) (at param1 f) + b))) ⌝ }
+{
+    if MOST_SYMBOLS <= f {
+        return 0;
+    }
+    let columns = width_of(sizes, wide(param1[f]));
+    let start = offsets[f];
+    byte_at(t, start + (a * columns + b))
+}
+
 // Writes one symbol's table, which is the whole stretch, row by row.
 pub fn write_table(
     out: &mut [u8],
@@ -297,27 +318,6 @@ fn cells_of(p: Parsed, sizes: [u8; MOST_SORTS], f: usize) -> usize
     let rows = width_of(sizes, a);
     let columns = width_of(sizes, b);
     rows * columns
-}
-
-// What the table of symbol f holds at two argument codes, a missing one being 0.
-fn entry_of(
-    param1: [u8; MOST_SYMBOLS],
-    sizes: [u8; MOST_SORTS],
-    offsets: [usize; MOST_SYMBOLS + 1],
-    t: &[u8],
-    f: usize,
-    a: usize,
-    b: usize,
-) -> u8
-    requires { ⌜ SmallOffsets offsets × (a < 256) × (b < 256) ⌝ }
-    ensures { λ r. ⌜ (f < mostSymbols → r ≡ at (now (t .entry)) (at offsets f + (a * width (at sizes) (at param1 f) + b))) ⌝ }
-{
-    if MOST_SYMBOLS <= f {
-        return 0;
-    }
-    let columns = width_of(sizes, wide(param1[f]));
-    let start = offsets[f];
-    byte_at(t, start + (a * columns + b))
 }
 
 // The byte at a place, 0 past the end.

@@ -1,4 +1,4 @@
-// Judge and table of a name on tables of every size around the bounds, against what the literals say of their codes, and on damaged
+// Judge, table of a name and walk on tables of every size around the bounds, against what the literals say of their codes, and on damaged
 // tables.
 use crate::slices::first;
 use crate::stretches;
@@ -9,6 +9,7 @@ use crate::tally::FITS;
 use crate::tally::OUT_OF_BOUNDS;
 use crate::tally::expect;
 use crate::tally::refusal;
+use crate::walks;
 use tables::Judgement;
 use test_listing::answer::tops;
 use test_listing::keys::first_broken;
@@ -97,6 +98,7 @@ fn one_table(
     counts: &mut [u64; COUNTS],
 ) {
     stretches::compare(p, s, tables, sheet, counts);
+    walks::compare(p, s, tables, 1, sheet, counts);
     judged(tables, s.length, wanted(p, s, tables), sheet, counts);
 }
 
@@ -166,6 +168,7 @@ fn damaged_length(way: usize, length: usize) -> usize {
 
 fn refused(tables: &[u8; ROOM], length: usize, sheet: &[u8], counts: &mut [u64; COUNTS]) {
     stretches::nothing(first(tables, length), 0, sheet, counts);
+    walks::damaged(first(tables, length), sheet, counts);
     judged(tables, length, 1012, sheet, counts);
 }
 

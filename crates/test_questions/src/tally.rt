@@ -8,7 +8,7 @@ use test_sheets::plan::TERMS;
 use test_sheets::plan::count;
 use test_sheets::plan::record_at;
 
-pub const COUNTS: usize = 32;
+pub const COUNTS: usize = 38;
 
 // The counts, in the order of the report.
 pub const SHEETS: usize = 0;
@@ -73,7 +73,19 @@ pub const TOO_SHORT: usize = 29;
 
 pub const FOUND_AGAIN: usize = 30;
 
-pub const DIFFERENCES: usize = 31;
+pub const WALKS: usize = 31;
+
+pub const WALKED: usize = 32;
+
+pub const WALKED_CODES: usize = 33;
+
+pub const SHORT_TRAIL: usize = 34;
+
+pub const WALK_DAMAGED: usize = 35;
+
+pub const NO_WALK: usize = 36;
+
+pub const DIFFERENCES: usize = 37;
 
 pub fn add(counts: &mut [u64; COUNTS], at: usize, n: usize) {
     let k = at % COUNTS;
@@ -121,7 +133,7 @@ pub fn report(counts: &[u64; COUNTS]) {
     let n = report_find(counts, report_sheets(counts, 0));
     let m = report_forced(counts, report_judge(counts, n));
     let k = report_fitted(counts, report_group(counts, m));
-    fill(b"differences #\n", counts, k);
+    fill(b"differences #\n", counts, report_walk(counts, k));
 }
 
 fn report_sheets(counts: &[u64; COUNTS], n: usize) -> usize {
@@ -167,6 +179,14 @@ fn report_group(counts: &[u64; COUNTS], n: usize) -> usize {
 fn report_fitted(counts: &[u64; COUNTS], n: usize) -> usize {
     fill(
         b"fitted: written #\n- refused 11 #\n- refused 14 #\n- refused 10, a buffer one byte short #\n- find gives the old names their tables again #\n",
+        counts,
+        n,
+    )
+}
+
+fn report_walk(counts: &[u64; COUNTS], n: usize) -> usize {
+    fill(
+        b"walk: walks #\n- written #\n- codes written #\n- refused 10, a start past the end or too few bytes behind it #\n- refused 12, damaged tables #\n- refused 15 #\n",
         counts,
         n,
     )

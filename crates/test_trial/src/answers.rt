@@ -1,13 +1,17 @@
-// Find and fitted, over one listing of the candidates, the unforced cells of its answer filled by the rule.
+// Find and fitted, over one listing of the candidates, the unforced cells of its answer filled by the rule; and walks through the answer's tables.
 use crate::finds;
 use crate::fits;
+use test_listing::answer::NOTHING;
 use test_listing::answer::list;
+use test_listing::keys::KEY;
 use test_listing::shape::ROOM;
+use test_listing::shape::shaped;
 use test_listing::unforced::keep_codes;
 use test_questions::tally::COUNTS;
 use test_questions::tally::KEPT;
 use test_questions::tally::LISTED;
 use test_questions::tally::add;
+use test_questions::walks;
 use test_sheets::plan::PLAN;
 
 pub(crate) fn compare(p: [u8; PLAN], sheet: &[u8], counts: &mut [u64; COUNTS]) {
@@ -18,4 +22,20 @@ pub(crate) fn compare(p: [u8; PLAN], sheet: &[u8], counts: &mut [u64; COUNTS]) {
     add(counts, KEPT, kept);
     finds::compare(p, key, &best, sheet, counts);
     fits::compare(p, key, &best, sheet, counts);
+    if key[0] != NOTHING {
+        walk_found(p, key, &best, sheet, counts);
+    }
+}
+
+// Four walks through the tables that find gives.
+fn walk_found(
+    p: [u8; PLAN],
+    key: [u8; KEY],
+    best: &[u8; ROOM],
+    sheet: &[u8],
+    counts: &mut [u64; COUNTS],
+) {
+    let mut limit = [0u8; ROOM];
+    let s = shaped(p, [key[1], key[2], key[3]], &mut limit);
+    walks::compare(p, s, best, 4, sheet, counts);
 }

@@ -1,7 +1,7 @@
-// The sheet of zero bytes, sheets at the limits of fitted sheets, and random small sheets from a fixed seed. Find, judge, table of a name, forced, group
+// The sheet of zero bytes, sheets at the limits of fitted sheets, and random small sheets from a fixed seed. Find, judge, table of a name, walk, forced, group
 // and fitted are asked about each, and what they give is compared with a listing of all interpretations (crate test_listing). The numbers printed are
 // fixed by the seed; a difference is printed with its sheet.
-mod answers; // find and fitted, over one listing
+mod answers; // find and fitted, over one listing, and walk on its answer
 mod buffers; // what a buffer holds
 mod finds; // find is asked
 mod fits; // fitted is asked

@@ -1,5 +1,5 @@
 -- The sheet of zero bytes: what find does is its row of the worked sheets, and what judge says is a row of the theorem about every accepted sheet.
-use Prim.Native.Nat.{ℕ, _≤_, _<_}
+use Prim.Native.Nat.{ℕ, _+_, _≤_, _<_}
 use native.Mathlib.Decide.{decLt}
 use native.Mathlib.Omega.{arith}
 use mathlib.Core.Path.{_≡_, refl, ap, _∙_}
@@ -16,6 +16,7 @@ use Rattle.layout.proofs.Encoding.{nothing-read}
 use Rattle.layout.proofs.Written.{encode-empty}
 use Rattle.tables.specs.Layout.{WellLaid}
 use Rattle.tables.specs.Tests.{wellLaid}
+use Rattle.tables.proofs.Laid.{well-laid-test}
 use Rattle.tables.specs.declared.Judgement.the-variants as judgements
 use Rattle.judge.specs.Judge.{Says, judgement, stretchOf, tableOf, nowhere}
 use Rattle.judge.proofs.Judged.{judgement-says}
@@ -28,6 +29,10 @@ use Rattle.fitted_sheet.specs.FittedSheet.{fittedSheet}
 use Rattle.fitted.specs.Filing.{Filing, filed, outcome, fits, fitting, bufferIn, bufferAfter}
 use Rattle.fitted.specs.declared.Fitting.the-variants as fittings
 use Rattle.fitted.proofs.Filings.{outcome-short, outcome-long}
+use Rattle.walk.specs.Walk.{Outcome, turnedDown, walked, outcome as Walk·outcome, walking, trailAfter}
+use Rattle.walk.specs.declared.Walking.the-variants as walkings
+use Rattle.walk.proofs.Outcomes.{outcome-malformed, result-of, trail-of}
+use Rattle.walk.proofs.Walked.{written-of, fifteen-exactly}
 use Rattle.worked.specs.Worked.{row15, Shown, Shows}
 use Rattle.worked.specs.EmptySheet.{OneCandidate, emptyEntry, EmptySheet}
 use Rattle.worked.proofs.Worked.{worked}
@@ -65,15 +70,14 @@ well-laid-none : (t : List ℕ) → WellLaid empty t → t ≡ []
 well-laid-none [] w = refl
 well-laid-none (x ∷ t) w = let e = w .extent in absurd (omega arith)
 
+none-well-laid : WellLaid empty []
+none-well-laid = record { sizes = omega arith; size = λ s h. absurd (omega arith); extent = refl; entry = λ f h k l. absurd (omega arith) }
+
 none-fits : (t : List ℕ) → t ≡ [] → judgement [] t ≡ judgements.Fits
 none-fits t e = ap (judgement []) e ∙ judgement-says [] [] empty nothing-read judgements.Fits .1 says
   where
     says : Says empty [] judgements.Fits
-    says = (
-      record { sizes = omega arith; size = λ s h. absurd (omega arith); extent = refl; entry = λ f h k l. absurd (omega arith) },
-      one-candidate _ .candidate,
-      one-candidate _ .satisfies,
-    )
+    says = (none-well-laid, one-candidate _ .candidate, one-candidate _ .satisfies)
 
 fits-exactly : (t : List ℕ) → (judgement [] t ≡ judgements.Fits) ↔ (t ≡ [])
 fits-exactly t = (λ e. well-laid-none t (judgement-says [] t empty nothing-read judgements.Fits .0 e .0), none-fits t)
@@ -115,6 +119,27 @@ untouched out =
       | no h ↦ ap (λ (x : Filing). bufferIn x out) (nothing-filed (length out) (omega arith)) ∙ ap (λ (l : List ℕ). fronted l out) encode-empty
     ]
 
+-- no field is there to walk in
+no-walk : (s c : ℕ) (fs : List ℕ) (room start : ℕ) → start + length fs ≤ room → walking [] [] s c fs room start ≡ walkings.Refused 15 0
+no-walk s c fs room start h = fifteen-exactly [] [] s c fs room start empty nothing-read h none-well-laid .1 (λ w. omega (arith, w .sort))
+
+other-tables : (t : List ℕ) (s c : ℕ) (fs : List ℕ) (room start : ℕ) → (t ≡ [] → ⊥) → start + length fs ≤ room → walking [] t s c fs room start ≡ walkings.Refused 12 0
+other-tables t s c fs room start longer h =
+    result-of [] t s c fs room start (turnedDown 12 0) (outcome-malformed [] t s c fs room start empty nothing-read h (by (wellLaid empty t) refl))
+  where
+    by : (b : Bool) → wellLaid empty t ≡ b → wellLaid empty t ≡ false
+    by true e = absurd (longer (well-laid-none t (well-laid-test empty t .0 e)))
+    by false e = e
+
+untrodden : (t : List ℕ) (s c : ℕ) (fs trail : List ℕ) (start : ℕ) → trailAfter [] t s c fs trail start ≡ trail
+untrodden t s c fs trail start = step (Walk·outcome [] t s c fs (length trail) start) refl
+  where
+    step : (o : Outcome) → Walk·outcome [] t s c fs (length trail) start ≡ o → trailAfter [] t s c fs trail start ≡ trail
+    step (turnedDown n i) q = trail-of [] t s c fs trail start (turnedDown n i) q
+    step (walked cs) q =
+        let w = written-of [] t s c fs (length trail) start empty nothing-read (length cs) (result-of [] t s c fs (length trail) start (walked cs) q) in
+        absurd (omega (arith, w .walkable .sort))
+
 -- THEOREM: the sheet of zero bytes
 pub empty-sheet : EmptySheet
 empty-sheet =
@@ -134,4 +159,7 @@ empty-sheet =
       fitted = written;
       short = short;
       buffer = untouched;
+      walk = no-walk;
+      walk-others = other-tables;
+      trail = untrodden;
     }

@@ -1,6 +1,6 @@
 -- Interface. The sheet of zero bytes, a block without an agreement yet, question by question. Every definition and theorem covers it as it covers any other
 -- sheet: it has no field, so it has one candidate, without sizes and without tables, and that is its answer.
-use Prim.Native.Nat.{ℕ, _≤_, _<_}
+use Prim.Native.Nat.{ℕ, _+_, _≤_, _<_}
 use mathlib.Core.Path.{_≡_}
 use mathlib.Core.Logic.{_↔_}
 use mathlib.Core.List.{List, []}
@@ -23,6 +23,8 @@ use Rattle.finder.specs.Find.{finding, codesAfter, tablesAfter}
 use Rattle.finder.specs.declared.Finding.the-variants.{Found}
 use Rattle.fitted.specs.Filing.{fitting, bufferAfter}
 use Rattle.fitted.specs.declared.Fitting.the-variants as fittings
+use Rattle.walk.specs.Walk.{walking, trailAfter}
+use Rattle.walk.specs.declared.Walking.the-variants as walkings
 
 -- Every structure is a candidate and satisfies every statement. In what the sheet speaks of they are all one: no sizes, which sum to 0, no codes and no
 -- tables.
@@ -59,3 +61,7 @@ pub record EmptySheet : Type 0 where
   pub fitted : (room : ℕ) → mostSheetBytes ≤ room → fitting [] room ≡ fittings.Written 0
   pub short : (room : ℕ) → room < mostSheetBytes → fitting [] room ≡ fittings.Refused 10 0
   pub buffer : (out : List ℕ) → bufferAfter [] out ≡ out
+  -- there is no field to walk in: no event or many, a trail with room gets 15, or 12 for tables that are not its own, and no walk writes
+  pub walk : (s c : ℕ) (fs : List ℕ) (room start : ℕ) → start + length fs ≤ room → walking [] [] s c fs room start ≡ walkings.Refused 15 0
+  pub walk-others : (t : List ℕ) (s c : ℕ) (fs : List ℕ) (room start : ℕ) → (t ≡ [] → ⊥) → start + length fs ≤ room → walking [] t s c fs room start ≡ walkings.Refused 12 0
+  pub trail : (t : List ℕ) (s c : ℕ) (fs trail : List ℕ) (start : ℕ) → trailAfter [] t s c fs trail start ≡ trail

@@ -1,3 +1,4 @@
--- Both are the interface.
+-- All are the interface.
 pub mod Worked
 pub mod EmptySheet
+pub mod Walks

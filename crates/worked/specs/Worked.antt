@@ -200,6 +200,6 @@ pub record Shows (r : Row) : Type 0 where
   -- a shorter buffer is refused, so that the row asks for no more than the sheet needs
   pub short : (cs ts : List ℕ) → (length cs < r .codeBytes) ⊎ (length ts < r .tableBytes) → finding (r .sheet) (length cs) (length ts) ≡ Refused 10 0
 
-abbrev pub All : (Row → Type 0) → List Row → Type 0
+abbrev pub All : {A : Type 0} → (A → Type 0) → List A → Type 0
 All p [] = Unit
 All p (r ∷ rs) = p r × All p rs

@@ -7,22 +7,15 @@ use mathlib.Core.List.{List, [], _∷_}
 use lib.ListN.{length, take}
 use Rattle.prelude.specs.Lists.{at}
 use Rattle.prelude.specs.Limits.{missing}
-use Rattle.prelude.specs.Tests.{Each}
 use Rattle.logic.specs.Sheet.{Sheet, symbolAt}
 use Rattle.layout.specs.Packed.{first, second}
 use Rattle.layout.specs.declared.Parsed.{Parsed}
 use Rattle.tables.specs.Parts.{Packs}
-use Rattle.tables.proofs.Packing.{result-packed, param0-packed, param1-packed, params-below-8}
+use Rattle.tables.proofs.Packing.{one-param, result-packed, param0-packed, param1-packed, params-below-8}
 use Rattle.answer.specs.Answer.{Entry, unforced}
 use Rattle.answer.specs.Demand.{ToItself}
 use Rattle.answer.proofs.Demand.{unforced-kept, unforced-zero}
 use Rattle.writing.specs.Written.{cellCodes}
-
--- no parameter has the number that a missing one has
-one-param : (params : List ℕ) (result : ℕ) → Each (λ s. s < 8) params → result < 8 → second params ≡ missing → first params ≡ result → params ≡ result ∷ []
-one-param [] result b h p q = absurd (omega arith)
-one-param (s ∷ []) result b h p q = ap (λ (x : ℕ). x ∷ []) q
-one-param (s ∷ r ∷ l) result b h p q = absurd (omega (arith, b .1 .0))
 
 module _ (sh : Sheet) (p : Parsed) (k : Packs sh p) (e : Entry) (f row col : ℕ) (h : f < length (sh .symbols)) where
   pub kept-here : at (p .param1) f ≡ missing → at (p .param0) f ≡ at (p .result) f → row ≡ unforced sh e f (cellCodes sh f row col)

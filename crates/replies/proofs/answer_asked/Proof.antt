@@ -37,6 +37,9 @@ else5 e = e .before .before .before
 abbrev else6 : tie.Else7 → tie.Else6
 else6 e = e .before .before .before
 
+abbrev else7 : tie.Else8 → tie.Else7
+else7 e = e .before .before .before
+
 not-read : (e : tie.Else1) → sameList (wordAt (line-of e) 0) (ascii "read") ≡ false
 not-read e = told (ascii "read") (e .before .before .before .word .ensures .0) (e .before .same .ensures) (e .if1 .left)
 
@@ -57,6 +60,9 @@ not-fitted e = told (ascii "fitted") (else1 (else2 (else3 (else4 (else5 e)))) .b
 
 not-table : (e : tie.Else7) → sameList (wordAt (line-of (else1 (else2 (else3 (else4 (else5 (else6 e))))))) 0) (ascii "table") ≡ false
 not-table e = told (ascii "table") (else1 (else2 (else3 (else4 (else5 (else6 e))))) .before .before .before .word .ensures .0) (e .before .same7 .ensures) (e .if7 .left)
+
+not-walk : (e : tie.Else8) → sameList (wordAt (line-of (else1 (else2 (else3 (else4 (else5 (else6 (else7 e)))))))) 0) (ascii "walk") ≡ false
+not-walk e = told (ascii "walk") (else1 (else2 (else3 (else4 (else5 (else6 (else7 e)))))) .before .before .before .word .ensures .0) (e .before .same8 .ensures) (e .if8 .left)
 
 word-requires : tie.Need-word-requires
 word-requires c κs = tt
@@ -193,20 +199,40 @@ returns-7 c =
     let is = told (ascii "table") (else1 (else2 (else3 (else4 (else5 e)))) .before .before .before .word .ensures .0) (c .before .before .before .before .before .same7 .ensures) (c .before .before .before .before .if7 .taken) in
     rw (not-read (else1 (else2 (else3 (else4 (else5 e))))), not-find (else2 (else3 (else4 (else5 e)))), not-judge (else3 (else4 (else5 e))), not-forced (else4 (else5 e)), not-group (else5 e), not-fitted e, is) (c .before .before .table-question .ensures)
 
-slice-aggregate-put : tie.Need-slice-aggregate-put
-slice-aggregate-put c = refl
+slice-aggregate-same-8 : tie.Need-slice-aggregate-same-8
+slice-aggregate-same-8 c = refl
 
-put-requires : tie.Need-put-requires
-put-requires c κs = omega (arith, c .before .before .before .before .before .before .before .before .before .before .before .before .before .before .before .before .before .before .before .before .before .before .before .before .before .before .pre .1)
+same-requires-8 : tie.Need-same-requires-8
+same-requires-8 c κs = tt
+
+walk-question-requires : tie.Need-walk-question-requires
+walk-question-requires c κs = c .before .before .before .before .before .before .before .before .before .before .before .before .before .before .before .before .before .before .before .before .before .before .before .before .before .before .before .before .pre
 
 same-length-8 : tie.Need-same-length-8
-same-length-8 c = c .before .before .put .kept .0
+same-length-8 c = c .before .before .walk-question .kept .1 .0
 
 returns-8 : tie.Need-returns-8
 unfolding asked
 returns-8 c =
+    let e = c .before .before .before .before .before .before .before in
+    let is = told (ascii "walk") (else1 (else2 (else3 (else4 (else5 (else6 e))))) .before .before .before .word .ensures .0) (c .before .before .before .before .before .same8 .ensures) (c .before .before .before .before .if8 .taken) in
+    rw (not-read (else1 (else2 (else3 (else4 (else5 (else6 e)))))), not-find (else2 (else3 (else4 (else5 (else6 e))))), not-judge (else3 (else4 (else5 (else6 e)))), not-forced (else4 (else5 (else6 e))), not-group (else5 (else6 e)), not-fitted (else6 e), not-table e, is) (c .before .before .walk-question .ensures)
+
+slice-aggregate-put : tie.Need-slice-aggregate-put
+slice-aggregate-put c = refl
+
+put-requires : tie.Need-put-requires
+put-requires c κs = omega (arith, c .before .before .before .before .before .before .before .before .before .before .before .before .before .before .before .before .before .before .before .before .before .before .before .before .before .before .before .before .before .pre .1)
+
+same-length-9 : tie.Need-same-length-9
+same-length-9 c = c .before .before .put .kept .0
+
+returns-9 : tie.Need-returns-9
+unfolding asked
+returns-9 c =
     let e = c .before .before .before .before .before in
-    rw (not-read (else1 (else2 (else3 (else4 (else5 (else6 e)))))), not-find (else2 (else3 (else4 (else5 (else6 e))))), not-judge (else3 (else4 (else5 (else6 e)))), not-forced (else4 (else5 (else6 e))), not-group (else5 (else6 e)), not-fitted (else6 e), not-table e) (c .before .before .put .ensures)
+    let t = else7 e in
+    rw (not-read (else1 (else2 (else3 (else4 (else5 (else6 t)))))), not-find (else2 (else3 (else4 (else5 (else6 t))))), not-judge (else3 (else4 (else5 (else6 t)))), not-forced (else4 (else5 (else6 t))), not-group (else5 (else6 t)), not-fitted (else6 t), not-table t, not-walk e) (c .before .before .put .ensures)
 
 pub answer-asked-spec : {M : Type 1} → statement M
 answer-asked-spec =
@@ -248,7 +274,12 @@ answer-asked-spec =
     table-question-requires
     same-length-7
     returns-7
+    slice-aggregate-same-8
+    same-requires-8
+    walk-question-requires
+    same-length-8
+    returns-8
     slice-aggregate-put
     put-requires
-    same-length-8
-    returns-8)
+    same-length-9
+    returns-9)

@@ -1,0 +1,5 @@
+pub mod Steps
+pub mod Events
+pub mod Outcomes
+pub mod Walked
+pub mod InTurn
