@@ -57,17 +57,17 @@ module _ (sh : Sheet) (M : Structure) (i : Interprets M sh) (s : ℕ) where
   end-below c (f ∷ fs) h e = end-below (M .table f (c ∷ [])) fs (step-below c f h (e 0 (omega arith))) (λ j l. e (suc j) (omega arith))
 
 -- the codes of the first k events stand in front of a list, and the walk is at this code
-pub record WalkedTo (M : Structure) (c : ℕ) (fs out : List ℕ) (k at′ : ℕ) : Type 0 where
+pub record WalkedTo (M : Structure) (c : ℕ) (fs out : List ℕ) (k x : ℕ) : Type 0 where
   pub stand : take k out ≡ walk M c (take k fs)
-  pub now′ : at′ ≡ end M c (take k fs)
+  pub reached : x ≡ end M c (take k fs)
 
 module _ (M : Structure) (c : ℕ) (fs out : List ℕ) where
   pub walked-none : WalkedTo M c fs out 0 c
-  walked-none = record { stand = refl; now′ = refl }
+  walked-none = record { stand = refl; reached = refl }
 
   pub walked-more : (k a v : ℕ) → k < length fs → k < length out → WalkedTo M c fs out k a → v ≡ M .table (at fs k) (a ∷ []) → WalkedTo M c fs (set out k v) (k + 1) v
   walked-more k a v h l w e =
-      let next : v ≡ M .table (at fs k) (end M c (take k fs) ∷ []) = e ∙ ap (λ (x : ℕ). M .table (at fs k) (x ∷ [])) (w .now′) in
+      let next : v ≡ M .table (at fs k) (end M c (take k fs) ∷ []) = e ∙ ap (λ (x : ℕ). M .table (at fs k) (x ∷ [])) (w .reached) in
       let more : take (k + 1) fs ≡ take k fs ++ (at fs k ∷ []) = ap (λ (n : ℕ). take n fs) (add-one k) ∙ take-suc fs k 0 h in
       record {
         stand =
@@ -77,7 +77,7 @@ module _ (M : Structure) (c : ℕ) (fs out : List ℕ) where
             ∙ ap (λ (x : ℕ). walk M c (take k fs) ++ (x ∷ [])) next
             ∙ sym (walk-both M c (take k fs) (at fs k ∷ []))
             ∙ ap (walk M c) (sym more);
-        now′ = next ∙ sym (end-both M c (take k fs) (at fs k ∷ [])) ∙ ap (end M c) (sym more);
+        reached = next ∙ sym (end-both M c (take k fs) (at fs k ∷ [])) ∙ ap (end M c) (sym more);
       }
 
   pub walked-all : (a : ℕ) → length out ≡ length fs → WalkedTo M c fs out (length fs) a → out ≡ walk M c fs
