@@ -25,7 +25,7 @@ use Rattle.layout.specs.Views.{Views}
 use Rattle.layout.proofs.AtMostTwo.{each-weaken, pair-map}
 use Rattle.layout.proofs.View.{packed-views}
 use Rattle.congruence.specs.Closure.{join, joinSides, alike, joinAlike, forEach, stated, round, rounds, labels, groupOf, together}
-use Rattle.congruence.specs.Forced.{Forced, Representative}
+use Rattle.congruence.specs.Forced.{Forced, Representative, Labelled}
 use Rattle.congruence.specs.Groups.{Lowest, Groups}
 use Rattle.congruence.specs.Parts.{Joined, named, key, Closed, Coarsening}
 use Rattle.congruence.specs.declared.Key.{Key}
@@ -379,3 +379,11 @@ module _ (sh : Sheet) (w : WellFormed sh) where
     λ q. subst (Representative sh e) q (group-representative e b),
     λ r. representative-unique sh e (groupOf sh e) k (group-representative e b) r,
   )
+
+  -- THEOREM: labels that name the groups are below 128, and each is its group's lowest-numbered term
+  pub groups-labelled : (l : ℕ → ℕ) → Groups (view (packed sh)) l → Labelled sh l
+  groups-labelled l g =
+      record {
+        small = λ i b. omega (arith, g .lowest .below i b);
+        number = λ e b. group-exactly e (l e) b .0 (sym (labels-unique l g e b));
+      }

@@ -4,6 +4,7 @@ use Prim.Native.Nat.{ℕ, _<_}
 use mathlib.Core.Path.{_≡_}
 use mathlib.Core.Bool.{true}
 use lib.ListN.{length}
+use Rattle.prelude.specs.Limits.{mostTerms}
 use Rattle.logic.specs.Sheet.{Sheet, literalAt}
 use Rattle.logic.specs.Structure.{Structure, Interprets, SatisfiesSame, code}
 
@@ -16,6 +17,11 @@ pub record Representative (sh : Sheet) (e k : ℕ) : Type 0 where
   pub there : k < length (sh .terms)
   pub forced : Forced sh k e
   pub lowest : (j : ℕ) → j < k → Forced sh j e → ⊥
+
+-- labels of a sheet, as an array of 128 bytes holds them: each is below 128, and that of a term is the number of its group
+pub record Labelled (sh : Sheet) (l : ℕ → ℕ) : Type 0 where
+  pub small : (i : ℕ) → i < mostTerms → l i < mostTerms
+  pub number : (e : ℕ) → e < length (sh .terms) → Representative sh e (l e)
 
 -- each same statement of one sheet is one of the other
 abbrev pub SameIn : Sheet → Sheet → Type 0

@@ -1,4 +1,4 @@
-// The grouping of terms: congruence closure of the same statements. A group's label is its lowest-numbered term.
+// The grouping of terms: congruence closure of the same statements. A group's label is its lowest-numbered term, held in a byte.
 use layout::Parsed;
 use prelude::MOST_TERMS;
 use prelude::own_numbers;
@@ -26,7 +26,7 @@ pub fn groups(p: Parsed) -> [u8; MOST_TERMS]
     requires { ⌜ Closable (view p) ⌝ }
     ensures { λ r. ⌜ Groups (view p) (at r) ⌝ }
 {
-    let alone = own_numbers();
+    let alone = own_numbers([0u8; MOST_TERMS]);
     let labels = stated(p, alone);
     saturated(p, labels)
 }

@@ -16,8 +16,9 @@ use Rattle.sheet.specs.declared.Parsing.{Parsing}
 use Rattle.sheet.proofs.Verdicts.{Accepts, number-accepted}
 use Rattle.congruence.specs.Closure.{groupOf}
 use Rattle.congruence.specs.Groups.{Groups, Closable}
+use Rattle.congruence.specs.Forced.{Labelled}
 use Rattle.congruence.proofs.Structures.{views-closable}
-use Rattle.congruence.proofs.Closing.{labels-unique}
+use Rattle.congruence.proofs.Closing.{labels-unique, groups-labelled}
 
 module _ (s : List ℕ) (p : Parsing) (q : p ≡ parsing (reading s)) (zero : p .number ≡ 0) where
   pub parsed-sheet : Accepts s p
@@ -38,3 +39,7 @@ module _ (s : List ℕ) (p : Parsing) (q : p ≡ parsing (reading s)) (zero : p 
   -- labels that name the groups are the groups' numbers
   pub parsed-group : (l : ℕ → ℕ) → Groups (view (p .sheet)) l → (i : ℕ) → i < length (parsed-sheet .sheet .terms) → l i ≡ groupOf (parsed-sheet .sheet) i
   parsed-group l g = labels-unique (parsed-sheet .sheet) formed l (rw (parsed-sheet .same) at g)
+
+  -- THEOREM: every label of a parsed sheet is below 128 and is its group's lowest number
+  pub parsed-labelled : (l : ℕ → ℕ) → Groups (view (p .sheet)) l → Labelled (parsed-sheet .sheet) l
+  parsed-labelled l g = groups-labelled (parsed-sheet .sheet) formed l (rw (parsed-sheet .same) at g)

@@ -10,6 +10,7 @@ use lib.ListN.{length}
 use lib.Dec.{ltb}
 use borrow.Author.Tests.{lt-ltb, le-ltb}
 use Rattle.logic.specs.Sheet.{Sheet}
+use Rattle.prelude.specs.Limits.{mostTerms}
 use Rattle.prelude.specs.Tests.{Within}
 use Rattle.layout.specs.Layout.{Reading, accepted, refused, reading}
 use Rattle.layout.specs.Packed.{view}
@@ -20,7 +21,7 @@ use Rattle.sheet.proofs.Verdicts.{number-refused}
 use Rattle.congruence.specs.Closure.{groupOf}
 use Rattle.congruence.specs.Groups.{Groups}
 use Rattle.congruence.specs.Forced.{Representative}
-use Rattle.congruence.proofs.Closing.{group-exactly}
+use Rattle.congruence.proofs.Closing.{group-exactly, labels-groups, groups-labelled}
 use Rattle.group.specs.declared.Grouping.the-variants.{Group, Refused}
 use Rattle.group.specs.Grouping.{groupingOf, grouping}
 use Rattle.group.proofs.Parsed.{parsed-sheet, parsed-terms, parsed-group}
@@ -90,6 +91,13 @@ number-named s e k h = by (reading s) refl
               let never : _≡_ {A = ℕ} 0 1 = cc in
               absurd (omega arith)
         ]
+
+-- THEOREM: a byte holds every number that group gives
+pub number-small : (s : List ℕ) (e k : ℕ) → grouping s e ≡ Group k → k < mostTerms
+number-small s e k h =
+    let n = number-named s e k h in
+    let w = accepted-well-formed s (n .sheet) (n .reads) in
+    omega (arith, w .terms, n .there, n .number, groups-labelled (n .sheet) w (groupOf (n .sheet)) (labels-groups (n .sheet) w) .small e (omega (arith, w .terms, n .there)))
 
 -- a parsed sheet that was not refused
 module _ (s : List ℕ) (p : Parsing) (q : p ≡ parsing (reading s)) (zero : p .number ≡ 0) (e : ℕ) where

@@ -36,6 +36,13 @@ module _ {If : (ℕ → ℕ) → Type 0} {l w m : List ℕ} where
   pub in-marks : {m′ : List ℕ} → Kept If (Marks m) (Marks m′) → Kept If (Knows l w m) (Knows l w m′)
   in-marks q = record { kept = λ c i a. record { labels = a .labels; masks = a .masks; marks = q .kept c i (a .marks) } }
 
+-- a term's label has the term's code, and so has the label as a number
+pub label-code : (l : List ℕ) (i g : ℕ) → i < 128 → g ≡ at l i → Means (Labels l) (Same g i)
+label-code l i g h e = record { means = λ c k. ap c e ∙ k i h }
+
+pub same-number : (l : List ℕ) (g x i : ℕ) → g ≡ x → Means (Labels l) (Same x i) → Means (Labels l) (Same g i)
+same-number l g x i e m = record { means = λ c k. ap c e ∙ m .means c k }
+
 -- a store of the label of a term of the same code
 pub labels-set : (l : List ℕ) (k x : ℕ) → Kept (Same x k) (Labels l) (Labels (set l k x))
 labels-set l k x =

@@ -1,4 +1,4 @@
-// The knowledge that propagation gathers about terms: labels of groups, masks of struck codes, marks of different pairs.
+// The knowledge that propagation gathers about terms: labels of groups, a byte each, masks of struck codes, marks of different pairs.
 // Each function adds knowledge, and promises that what was true of an assignment of codes stays true of it.
 use prelude::MOST_CODES;
 use prelude::MOST_TERMS;
@@ -18,10 +18,11 @@ pub const MARK_HALVES: usize = 2 * MOST_TERMS;
 pub const NO_CODE_LEFT: u16 = 65535;
 
 // The label of a term; a number past the terms is its own label.
-pub fn label(labels: &[u8; MOST_TERMS], i: usize) -> usize
+pub fn label(labels: &[u8; MOST_TERMS], i: u8) -> u8
     ensures { λ r. ⌜ Means (Labels (now (labels .entry))) (Same r i) ⌝ }
 {
-    if i < MOST_TERMS { wide(labels[i]) } else { i }
+    let k = wide(i);
+    if k < MOST_TERMS { labels[k] } else { i }
 }
 
 // Whether two terms are marked as different.
@@ -87,8 +88,14 @@ pub fn join(
 ) -> bool
     ensures { λ _. ⌜ Kept (Same i j) (Knows (now (labels .entry)) (now (masks .entry)) (now (marks .entry))) (Knows (now (labels .exit)) (now (masks .exit)) (now (marks .exit))) ⌝ }
 {
-    let a = label(labels, i);
-    let b = label(labels, j);
+    if MOST_TERMS <= i {
+        return false;
+    }
+    if MOST_TERMS <= j {
+        return false;
+    }
+    let a = labels[i];
+    let b = labels[j];
     if a < b {
         merge(labels, masks, marks, a, b);
         return true;
@@ -161,20 +168,20 @@ fn relabel(labels: &mut [u8; MOST_TERMS], a: u8, b: u8)
 }
 
 // Marks k against a if it is marked against b.
-fn unite_one(marks: &mut [u64; MARK_HALVES], a: usize, b: usize, k: usize)
+fn unite_one(marks: &mut [u64; MARK_HALVES], a: u8, b: u8, k: usize)
     ensures { λ _. ⌜ Kept (Same a b) (Marks (now (marks .entry))) (Marks (now (marks .exit))) ⌝ }
 {
-    if marked(marks, b, k) {
-        mark(marks, a, k);
+    if marked(marks, wide(b), k) {
+        mark(marks, wide(a), k);
     }
 }
 
 // Marks against a what is marked against b, in one half of the row.
-fn unite_half(marks: &mut [u64; MARK_HALVES], a: usize, b: usize, half: usize)
+fn unite_half(marks: &mut [u64; MARK_HALVES], a: u8, b: u8, half: usize)
     requires { ⌜ (b < mostTerms) × (half < 2) ⌝ }
     ensures { λ _. ⌜ Kept (Same a b) (Marks (now (marks .entry))) (Marks (now (marks .exit))) ⌝ }
 {
-    let mut rest: u64 = marks[2 * b + half];
+    let mut rest: u64 = marks[2 * wide(b) + half];
     while 0 < rest {
         unite_one(marks, a, b, half * HALF_BITS + lowest(rest));
         rest = rest & (rest - 1);
@@ -186,20 +193,17 @@ fn merge(
     labels: &mut [u8; MOST_TERMS],
     masks: &mut [u16; MOST_TERMS],
     marks: &mut [u64; MARK_HALVES],
-    a: usize,
-    b: usize,
+    a: u8,
+    b: u8,
 )
     ensures { λ _. ⌜ Kept (Same a b) (Knows (now (labels .entry)) (now (masks .entry)) (now (marks .entry))) (Knows (now (labels .exit)) (now (masks .exit)) (now (marks .exit))) ⌝ }
 {
-    if MOST_TERMS <= a {
+    if MOST_TERMS <= wide(b) {
         return;
     }
-    if MOST_TERMS <= b {
-        return;
-    }
-    relabel(labels, a as u8, b as u8);
-    let s = masks[b];
-    strike(masks, a, s);
+    relabel(labels, a, b);
+    let s = mask(masks, wide(b));
+    strike(masks, wide(a), s);
     unite_half(marks, a, b, 0);
     unite_half(marks, a, b, 1);
 }

@@ -242,32 +242,32 @@ taken n symbol l w m f i chosen k hn hi g e other =
     }
 
 -- one more of those that are chosen
-pub unlike-more : (l w m chosen : List ℕ) (k i g h b : ℕ) → Means (KnownSmall l w m) (Unlike chosen k i) → Means (Labels l) (Same g i) → Means (Labels l) (Same h b) → b ≡ at chosen k → Means (λ c. SmallCodes c × (Masks w c × Marks m c)) (Differ h g) → Means (KnownSmall l w m) (Unlike chosen (k + 1) i)
-unlike-more l w m chosen k i g h b old lg lh eb d =
+pub unlike-more : (l w m chosen : List ℕ) (k i g h : ℕ) → Means (KnownSmall l w m) (Unlike chosen k i) → Means (Labels l) (Same g i) → Means (Labels l) (Same h (at chosen k)) → Means (λ c. SmallCodes c × (Masks w c × Marks m c)) (Differ h g) → Means (KnownSmall l w m) (Unlike chosen (k + 1) i)
+unlike-more l w m chosen k i g h old lg lh d =
     record {
       means = λ c x a ha e.
           elim (compare a k) [
             | inl q ↦ old .means c x a q e
             | inr r ↦ elim r [
-              | inl q ↦ d .means c (x .small, (x .knows .masks, x .knows .marks)) (lh .means c (x .knows .labels) ∙ ap c (eb ∙ ap (at chosen) (sym q)) ∙ e ∙ sym (lg .means c (x .knows .labels)))
+              | inl q ↦ d .means c (x .small, (x .knows .masks, x .knows .marks)) (lh .means c (x .knows .labels) ∙ ap c (ap (at chosen) (sym q)) ∙ e ∙ sym (lg .means c (x .knows .labels)))
               | inr q ↦ absurd (omega arith)
             ]
           ];
     }
 
 -- one more of a list: its code, its mask, its argument
-pub one-code-more : (l list : List ℕ) (k g h t u : ℕ) → Means (Labels l) (OneCode list k) → Means (Labels l) (Same g t) → t ≡ at list 0 → Means (Labels l) (Same h u) → u ≡ at list k → h ≡ g → Means (Labels l) (OneCode list (k + 1))
-one-code-more l list k g h t u old lg et lh eu e =
+pub one-code-more : (l list : List ℕ) (k g h : ℕ) → Means (Labels l) (OneCode list k) → Means (Labels l) (Same g (at list 0)) → Means (Labels l) (Same h (at list k)) → h ≡ g → Means (Labels l) (OneCode list (k + 1))
+one-code-more l list k g h old lg lh e =
     record {
-      means = λ c x. below-more _ k (old .means c x) (ap c (sym eu) ∙ sym (lh .means c x) ∙ ap c e ∙ lg .means c x ∙ ap c et);
+      means = λ c x. below-more _ k (old .means c x) (sym (lh .means c x) ∙ ap c e ∙ lg .means c x);
     }
 
-pub common-more : (l w list : List ℕ) (k x y g t : ℕ) → Means (λ c. Labels l c × Masks w c) (Free x list k) → Means (Labels l) (Same g t) → t ≡ at list k → Means (Masks w) (λ c. Bit y (c g) → ⊥) → Means (λ c. Labels l c × Masks w c) (Free (bitAnd x y) list (k + 1))
-common-more l w list k x y g t old lg e free =
+pub common-more : (l w list : List ℕ) (k x y g : ℕ) → Means (λ c. Labels l c × Masks w c) (Free x list k) → Means (Labels l) (Same g (at list k)) → Means (Masks w) (λ c. Bit y (c g) → ⊥) → Means (λ c. Labels l c × Masks w c) (Free (bitAnd x y) list (k + 1))
+common-more l w list k x y g old lg free =
     record {
       means = λ c h.
           below-more _ k (λ a ha b. old .means c h a ha (bit-and x y _ b .0))
-          (λ b. free .means c (h .1) (subst (Bit y) (ap c (sym e) ∙ sym (lg .means c (h .0))) (bit-and x y _ b .1)));
+          (λ b. free .means c (h .1) (subst (Bit y) (sym (lg .means c (h .0))) (bit-and x y _ b .1)));
     }
 
 pub arguments-more : (args list : List ℕ) (k : ℕ) (r : List ℕ) (v t : ℕ) → k < length r → Arguments args list k r → t ≡ at list k → (t < 128 → v ≡ at args t) → Arguments args list (k + 1) (set r k v)

@@ -61,14 +61,14 @@ fn unlike<'a>(
     k: usize,
     i: usize,
 ) -> bool
-    requires { ⌜ k ≤ mostTerms ⌝ }
+    requires { ⌜ (k ≤ mostTerms) × (i < mostTerms) ⌝ }
     ensures { λ r. ⌜ (r ≡ true → Means (KnownSmall (now (labels .entry)) (now (masks .entry)) (now (marks .entry))) (Unlike (now (chosen .entry)) k i)) ⌝ }
 {
-    let g = label(labels, i);
+    let g = labels[i];
     let mut a: usize = 0;
     while a < k {
-        let h = label(labels, wide(chosen[a]));
-        if !apart(masks, marks, h, g) {
+        let h = label(labels, chosen[a]);
+        if !apart(masks, marks, wide(h), wide(g)) {
             return false;
         }
         a += 1;
@@ -135,10 +135,10 @@ fn one_label<'a>(labels: &'a [u8; MOST_TERMS], list: &'a [u8; MOST_TERMS], k: us
     requires { ⌜ k ≤ mostTerms ⌝ }
     ensures { λ r. ⌜ (r ≡ true → Means (Labels (now (labels .entry))) (OneCode (now (list .entry)) k)) ⌝ }
 {
-    let g = label(labels, wide(list[0]));
+    let g = label(labels, list[0]);
     let mut a: usize = 0;
     while a < k {
-        if label(labels, wide(list[a])) != g {
+        if label(labels, list[a]) != g {
             return false;
         }
         a += 1;
@@ -159,7 +159,7 @@ fn common<'a>(
     let mut w: u16 = NO_CODE_LEFT;
     let mut a: usize = 0;
     while a < k {
-        w = w & mask(masks, label(labels, wide(list[a])));
+        w = w & mask(masks, wide(label(labels, list[a])));
         a += 1;
     }
     w

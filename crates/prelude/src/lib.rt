@@ -52,11 +52,11 @@ pub fn lesser(a: usize, b: usize) -> usize
     if a < b { a } else { b }
 }
 
-// Each number at its own place.
-pub fn own_numbers() -> [u8; MOST_TERMS]
+// Each number at its own place of an array, whatever it held.
+pub fn own_numbers(array: [u8; MOST_TERMS]) -> [u8; MOST_TERMS]
     ensures { λ r. ⌜ ((k : ℕ) → k < mostTerms → at r k ≡ k) ⌝ }
 {
-    let mut numbers = [0u8; MOST_TERMS];
+    let mut numbers = array;
     let mut k: usize = 0;
     while k < MOST_TERMS {
         numbers[k] = k as u8;

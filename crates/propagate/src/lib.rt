@@ -65,7 +65,7 @@ pub fn begin(p: Parsed) -> Known
     ensures { λ r. ⌜ Begun (view p) (r .labels) (r .masks) (r .marks) ⌝ }
 {
     let m = clamped(p.literals, MOST_LITERALS);
-    let mut labels = prelude::own_numbers();
+    let mut labels = prelude::own_numbers([0u8; MOST_TERMS]);
     let mut masks = [0u16; MOST_TERMS];
     let mut marks = [0u64; MARK_HALVES];
     join_same(
@@ -231,7 +231,7 @@ fn live(labels: &[u8; MOST_TERMS], half: usize) -> u64
     let mut row: u64 = 0;
     let mut k: usize = 0;
     while k < HALF_BITS {
-        if label(labels, half * HALF_BITS + k) == half * HALF_BITS + k {
+        if wide(labels[half * HALF_BITS + k]) == half * HALF_BITS + k {
             row = row | (1u64 << k);
         }
         k += 1;
@@ -267,8 +267,8 @@ fn uses<'a>(
     let mut counts = [0u8; MOST_TERMS];
     let mut i: usize = 0;
     while i < n {
-        count_one(&mut counts, label(labels, wide(arg0[i])));
-        count_one(&mut counts, label(labels, wide(arg1[i])));
+        count_one(&mut counts, wide(label(labels, arg0[i])));
+        count_one(&mut counts, wide(label(labels, arg1[i])));
         i += 1;
     }
     counts
@@ -285,9 +285,9 @@ fn degrees<'a>(
     let mut out = [0u16; MOST_TERMS];
     let mut i: usize = 0;
     while i < MOST_TERMS {
-        let g = label(labels, i) % MOST_TERMS;
-        let apart = ones(marks[2 * g] & low) + ones(marks[2 * g + 1] & high);
-        out[i] = (4 * apart + wide(used[g])) as u16;
+        let row = wide(labels[i]) % MOST_TERMS;
+        let apart = ones(marks[2 * row] & low) + ones(marks[2 * row + 1] & high);
+        out[i] = (4 * apart + wide(used[row])) as u16;
         i += 1;
     }
     out

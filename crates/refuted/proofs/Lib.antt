@@ -1,3 +1,4 @@
+pub mod Alone
 pub mod Refuted
 pub mod Fitted
 pub mod Walk

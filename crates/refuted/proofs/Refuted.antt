@@ -27,7 +27,7 @@ use Rattle.tables.proofs.Laid.{well-laid-test}
 use Rattle.judge.specs.Judge.{judged, judgement}
 use Rattle.forced.proofs.Fixed.{no-fixed-reply}
 use Rattle.group.specs.declared.Grouping.the-variants.{Group}
-use Rattle.group.proofs.Replies.{answer-exactly, number-named}
+use Rattle.group.proofs.Replies.{answer-exactly, number-named, number-small}
 use Rattle.group.proofs.NoPart.{answered-alike}
 use Rattle.group.proofs.Worked as group-worked
 use Rattle.finder.specs.Find.{turnedDown, ceilings, outcome}
@@ -43,7 +43,8 @@ use Rattle.worked.proofs.EmptySheet.{empty-sheet}
 use Rattle.finder.proofs.Outcomes.{outcome-refused, outcome-short}
 use Rattle.finder.proofs.Buffers.{exit}
 use Rattle.finder.proofs.Delivery.{accepted-promised, delivered-by}
-use Rattle.refuted.specs.WrongPrograms.{FindProgram, MeetsFind, LetThrough, ElevenForAll, NeverLooks, ElevenBeforeLooking, SameTables, NoCodeWritten, NoTableWritten, OtherSizesZero, OtherCodesZero, FoundCall, InventedSum, structureFrom, FreeCell, symbolOf, heldIn, KeepsAcross, KeepsOfTwo, Overwrites, StillZero, ReadProgram, MeetsRead, RefusesEverySheet, RefusesNoBytes, JudgeProgram, MeetsJudge, FixedJudgement, PassesTablesForNoBytes, GroupProgram, MeetsGroup, GivesItself, GivesHighest, OneRound, CountsDiffer, Refuted}
+use Rattle.refuted.specs.WrongPrograms.{FindProgram, MeetsFind, LetThrough, ElevenForAll, NeverLooks, ElevenBeforeLooking, SameTables, NoCodeWritten, NoTableWritten, OtherSizesZero, OtherCodesZero, FoundCall, InventedSum, structureFrom, FreeCell, symbolOf, heldIn, KeepsAcross, KeepsOfTwo, Overwrites, StillZero, ReadProgram, MeetsRead, RefusesEverySheet, RefusesNoBytes, JudgeProgram, MeetsJudge, FixedJudgement, PassesTablesForNoBytes, GroupProgram, MeetsGroup, GivesItself, GivesHighest, OneRound, CountsDiffer, SixBits, HighestBit, Refuted}
+use Rattle.refuted.proofs.Alone.{longest-bytes, last-alone}
 
 -- ---- the worked sheets that refute
 one-field : Shows row1
@@ -314,6 +315,13 @@ not-counts-differ p meets wrong =
     let alike = answered-alike (wrong .read) (wrong .readOther) (wrong .same) (wrong .sheet) (wrong .other) (wrong .term) (wrong .reads) (wrong .readsOther) in
     wrong .differs (meets (wrong .sheet) (wrong .term) ∙ alike ∙ sym (meets (wrong .other) (wrong .term)))
 
+-- the longest sheet
+not-six-bits : (p : GroupProgram) → MeetsGroup p → SixBits p → ⊥
+not-six-bits p meets wrong = omega (arith, wrong longest-bytes 127 127 (meets longest-bytes 127 ∙ last-alone))
+
+not-highest-bit : (p : GroupProgram) → MeetsGroup p → HighestBit p → ⊥
+not-highest-bit p meets wrong = omega (arith, wrong .4, number-small (wrong .0) (wrong .1) (wrong .2) (sym (meets (wrong .0) (wrong .1)) ∙ wrong .3))
+
 -- THEOREM: the wrong programs are refuted
 pub refuted : Refuted
 refuted =
@@ -340,4 +348,6 @@ refuted =
       gives-highest = not-gives-highest;
       one-round = not-one-round;
       counts-differ = not-counts-differ;
+      six-bits = not-six-bits;
+      highest-bit = not-highest-bit;
     }

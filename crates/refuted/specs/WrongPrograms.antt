@@ -209,6 +209,15 @@ pub record CountsDiffer (p : GroupProgram) : Type 0 where
   pub term : ℕ
   pub differs : p sheet term ≡ p other term → ⊥
 
+-- ---- GROUP (request (f))
+-- holds its labels in six bits: no number from 64 on is ever given
+abbrev pub SixBits : GroupProgram → Type 0
+SixBits p = (s : List ℕ) (e k : ℕ) → p s e ≡ Group k → k < 64
+
+-- gives a number of 128 or more, as one does that uses the highest bit of a label for something else
+abbrev pub HighestBit : GroupProgram → Type 0
+HighestBit p = (s : List ℕ) × (e : ℕ) × (k : ℕ) × (p s e ≡ Group k) × (128 ≤ k)
+
 -- ---- ALL OF THEM
 pub record Refuted : Type 0 where
   pub eleven-for-all : (p : FindProgram) → MeetsFind p → ElevenForAll p → ⊥
@@ -233,3 +242,5 @@ pub record Refuted : Type 0 where
   pub gives-highest : (p : GroupProgram) → MeetsGroup p → GivesHighest p → ⊥
   pub one-round : (p : GroupProgram) → MeetsGroup p → OneRound p → ⊥
   pub counts-differ : (p : GroupProgram) → MeetsGroup p → CountsDiffer p → ⊥
+  pub six-bits : (p : GroupProgram) → MeetsGroup p → SixBits p → ⊥
+  pub highest-bit : (p : GroupProgram) → MeetsGroup p → HighestBit p → ⊥

@@ -11,7 +11,6 @@ use knowledge::marked;
 use knowledge::mask;
 use knowledge::single;
 use knowledge::strike;
-use prelude::BYTE_VALUES;
 use prelude::MISSING;
 use prelude::MOST_CODES;
 use prelude::MOST_SORTS;
@@ -175,7 +174,7 @@ fn meet_single(
     requires { ⌜ i < mostTerms ⌝ }
     ensures { λ _. ⌜ Kept SmallCodes (Knows (now (labels .entry)) (now (masks .entry)) (now (marks .entry))) (Knows (now (labels .exit)) (now (masks .exit)) (now (marks .exit))) ⌝ }
 {
-    if label(labels, i) != i {
+    if wide(labels[i]) != i {
         return false;
     }
     let v = single(mask(masks, i));
@@ -192,11 +191,11 @@ fn meet_single(
 }
 
 // The label of an argument of a term.
-fn argument<'a>(labels: &'a [u8; MOST_TERMS], args: &'a [u8; MOST_TERMS], i: usize) -> usize
+fn argument<'a>(labels: &'a [u8; MOST_TERMS], args: &'a [u8; MOST_TERMS], i: usize) -> u8
     requires { ⌜ i < mostTerms ⌝ }
     ensures { λ r. ⌜ Means (Labels (now (labels .entry))) (Same r (at (now (args .entry)) i)) ⌝ }
 {
-    label(labels, wide(args[i]))
+    label(labels, args[i])
 }
 
 // R3 of two terms: one symbol and equal argument labels, so they are one group.
@@ -242,9 +241,9 @@ fn key<'a>(
     requires { ⌜ i < mostTerms ⌝ }
     ensures { λ r. ⌜ r < 16777216 ⌝ }
 {
-    let a = argument(labels, arg0, i) % BYTE_VALUES;
-    let b = argument(labels, arg1, i) % BYTE_VALUES;
-    wide(symbol[i]) * 65536 + a * 256 + b
+    let a = argument(labels, arg0, i);
+    let b = argument(labels, arg1, i);
+    wide(symbol[i]) * 65536 + wide(a) * 256 + wide(b)
 }
 
 // Where a key stands in the table of the terms met so far, or the free place for it.
@@ -346,7 +345,7 @@ fn strike_row<'a>(
     requires { ⌜ g < mostTerms ⌝ }
     ensures { λ _. ⌜ Kept (SmallMarks (now (marks .entry))) (Masks (now (masks .entry))) (Masks (now (masks .exit))) ⌝ }
 {
-    if label(labels, g) != g {
+    if wide(labels[g]) != g {
         return false;
     }
     let v = single(mask(masks, g));
@@ -375,7 +374,7 @@ fn buckets<'a>(
     let mut i: usize = 0;
     while i < n {
         if fresh[i] == 1 && there[i] != MISSING {
-            let h = (wide(symbol[i]) * 37 + argument(labels, by, i) % BYTE_VALUES * 11) % SLOTS;
+            let h = (wide(symbol[i]) * 37 + wide(argument(labels, by, i)) * 11) % SLOTS;
             earlier[i] = last[h];
             last[h] = i as u8;
         }
@@ -407,7 +406,7 @@ fn contrapose<'a>(
     if f != g {
         return false;
     }
-    if !apart(masks, marks, label(labels, i), label(labels, j)) {
+    if !apart(masks, marks, wide(labels[i]), wide(labels[j])) {
         return false;
     }
     let a = argument(labels, arg0, i);
@@ -415,10 +414,10 @@ fn contrapose<'a>(
     let x = argument(labels, arg1, i);
     let y = argument(labels, arg1, j);
     if x == y {
-        return mark(marks, a, b);
+        return mark(marks, wide(a), wide(b));
     }
     if a == b {
-        return mark(marks, x, y);
+        return mark(marks, wide(x), wide(y));
     }
     false
 }

@@ -105,7 +105,7 @@ pub fn spread<'a>(labels: &'a [u8; MOST_TERMS], masks: &'a [u16; MOST_TERMS]) ->
     let mut out = [0u16; MOST_TERMS];
     let mut i: usize = 0;
     while i < MOST_TERMS {
-        out[i] = mask(masks, label(labels, i));
+        out[i] = mask(masks, wide(labels[i]));
         i += 1;
     }
     out
@@ -149,13 +149,13 @@ fn start_mask<'a>(
     requires { ⌜ (n ≤ mostTerms) × (i < n) ⌝ }
     ensures { λ _. ⌜ Kept (Fixed n (now (labels .entry)) (now (sort .entry)) (now (sizes .entry)) (now (decided .entry))) (Masks (now (masks .entry))) (Masks (now (masks .exit))) ⌝ }
 {
-    let g = label(labels, i);
-    strike(masks, g, beyond(sizes, wide(sort[i])));
+    let g = labels[i];
+    strike(masks, wide(g), beyond(sizes, wide(sort[i])));
     let code = decided[i];
     if code == UNDECIDED {
         return;
     }
-    strike(masks, g, all_but(code));
+    strike(masks, wide(g), all_but(code));
 }
 
 // Joins the sides of one literal if it says that they are the same.
@@ -193,8 +193,8 @@ fn mark_sides<'a>(
 {
     let e = equal[k];
     if e == 0 {
-        let a = label(labels, wide(left[k]));
-        let b = label(labels, wide(right[k]));
-        mark(marks, a, b);
+        let a = label(labels, left[k]);
+        let b = label(labels, right[k]);
+        mark(marks, wide(a), wide(b));
     }
 }

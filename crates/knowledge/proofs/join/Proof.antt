@@ -5,41 +5,47 @@ use borrow.Author.Needs.{needs}
 use Rattle.knowledge.proofs.join.Statement.{statement}
 use Rattle.knowledge.proofs.join.Tie as tie
 
-label-requires : tie.Need-label-requires
-label-requires c κs = search needs
+returns : tie.Need-returns
+returns c = search needs
 
-label-requires-2 : tie.Need-label-requires-2
-label-requires-2 c κs = search needs
+returns-2 : tie.Need-returns-2
+returns-2 c = search needs
+
+element-copy-out-a : tie.Need-element-copy-out-a
+element-copy-out-a c = search needs
+
+element-copy-out-b : tie.Need-element-copy-out-b
+element-copy-out-b c = search needs
 
 merge-requires : tie.Need-merge-requires
 merge-requires c κs = search needs
 
-returns : tie.Need-returns
-returns c =
-    let i = c .before .before .before .before .before .before .before .label .ensures in
-    let j = c .before .before .before .before .before .label2 .ensures in
-    step (λ a e k. i .means a (k .labels) ∙ e ∙ sym (j .means a (k .labels))) (c .merge .ensures)
+returns-3 : tie.Need-returns-3
+returns-3 c =
+    let there = c .before .before .before .before .before .before .before in
+    step (λ a e k. k .labels _ (there .before .if1 .left) ∙ e ∙ sym (k .labels _ (there .if2 .left))) (c .merge .ensures)
 
 merge-requires-2 : tie.Need-merge-requires-2
 merge-requires-2 c κs = search needs
 
-returns-2 : tie.Need-returns-2
-returns-2 c =
-    let i = c .before .before .before .before .before .before .before .before .label .ensures in
-    let j = c .before .before .before .before .before .before .label2 .ensures in
-    step (λ a e k. j .means a (k .labels) ∙ sym e ∙ sym (i .means a (k .labels))) (c .merge2 .ensures)
+returns-4 : tie.Need-returns-4
+returns-4 c =
+    let there = c .before .before .before .before .before .before .before .before in
+    step (λ a e k. k .labels _ (there .if2 .left) ∙ sym e ∙ sym (k .labels _ (there .before .if1 .left))) (c .merge2 .ensures)
 
-returns-3 : tie.Need-returns-3
-returns-3 c = search needs
+returns-5 : tie.Need-returns-5
+returns-5 c = search needs
 
 pub join-spec : {M : Type 1} → statement M
 join-spec =
     tie.close
     (tie.spec
-    label-requires
-    label-requires-2
-    merge-requires
     returns
-    merge-requires-2
     returns-2
-    returns-3)
+    element-copy-out-a
+    element-copy-out-b
+    merge-requires
+    returns-3
+    merge-requires-2
+    returns-4
+    returns-5)

@@ -1,20 +1,22 @@
 -- `knowledge::label` meets its contract.
-use mathlib.Core.Path.{ap, _∙_}
+use mathlib.Core.Path.{refl, ap, _∙_}
 use borrow.Author.Needs.{needs}
 use Rattle.knowledge.proofs.label.Statement.{statement}
 use Rattle.knowledge.proofs.label.Tie as tie
 
-element-copy-out-wide : tie.Need-element-copy-out-wide
-element-copy-out-wide c = search needs
-
 wide-requires : tie.Need-wide-requires
 wide-requires c κs = search needs
 
+element-copy-out-result : tie.Need-element-copy-out-result
+element-copy-out-result c = search needs
+
 returns : tie.Need-returns
-returns c = record { means = λ a h. ap a (c .wide .ensures .0) ∙ h (c .before .before .before .args .i) (c .before .before .if1 .taken) }
+returns c =
+    let k = c .before .before .wide in
+    record { means = λ a h. h (k .result) (c .before .if1 .taken) ∙ ap a (k .ensures .0) }
 
 returns-2 : tie.Need-returns-2
-returns-2 c = search needs
+returns-2 c = record { means = λ a h. refl }
 
 pub label-spec : {M : Type 1} → statement M
-label-spec = tie.close (tie.spec element-copy-out-wide wide-requires returns returns-2)
+label-spec = tie.close (tie.spec wide-requires element-copy-out-result returns returns-2)

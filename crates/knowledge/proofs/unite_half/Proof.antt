@@ -14,6 +14,9 @@ Inv-loop marks₀ a b half rest₀ marks rest = (b < 128) × (half < 2) × Kept 
 abbrev μ-loop : tie.MeasureT-loop
 μ-loop marks₀ a b half rest₀ marks rest = rest
 
+wide-requires : tie.Need-wide-requires Inv-loop μ-loop
+wide-requires c κs = search needs
+
 mul-rest : tie.Need-mul-rest Inv-loop μ-loop
 mul-rest c = omega arith
 
@@ -59,6 +62,7 @@ unite-half-spec =
     (tie.spec
     Inv-loop
     μ-loop
+    wide-requires
     mul-rest
     add-rest
     mul-rest-2

@@ -15,11 +15,8 @@ Inv-loop labels list k g a₀ a = (k ≤ 128) × (a ≤ k) × Means (Labels labe
 abbrev μ-loop : tie.MeasureT-loop
 μ-loop labels list k g a₀ a = k - a
 
-element-copy-out-wide : tie.Need-element-copy-out-wide Inv-loop μ-loop
-element-copy-out-wide c = search needs
-
-wide-requires : tie.Need-wide-requires Inv-loop μ-loop
-wide-requires c κs = search needs
+element-copy-out-label : tie.Need-element-copy-out-label Inv-loop μ-loop
+element-copy-out-label c = search needs
 
 label-requires : tie.Need-label-requires Inv-loop μ-loop
 label-requires c κs = search needs
@@ -27,11 +24,8 @@ label-requires c κs = search needs
 loop-holds : tie.Need-loop-holds Inv-loop μ-loop
 loop-holds c = (omega arith, omega arith, record { means = λ x h b hb. absurd (omega arith) })
 
-element-copy-out-wide-2 : tie.Need-element-copy-out-wide-2 Inv-loop μ-loop
-element-copy-out-wide-2 c = search needs
-
-wide-requires-2 : tie.Need-wide-requires-2 Inv-loop μ-loop
-wide-requires-2 c κs = search needs
+element-copy-out-label-2 : tie.Need-element-copy-out-label-2 Inv-loop μ-loop
+element-copy-out-label-2 c = search needs
 
 label-requires-2 : tie.Need-label-requires-2 Inv-loop μ-loop
 label-requires-2 c κs = search needs
@@ -47,9 +41,9 @@ loop-less c = search needs
 
 loop-again : tie.Need-loop-again Inv-loop μ-loop
 loop-again c =
-    let s = c .before .before .before .before .before in
-    let p = s .before .before .before .before .args in
-    (omega arith, omega arith, one-code-more (p .labels .now) (p .list .now) _ _ _ _ _ (s .loop .inv .2) (s .before .label .ensures) (s .before .before .wide .ensures .0) (c .before .label2 .ensures) (c .before .before .wide2 .ensures .0) (c .if1 .left))
+    let s = c .before .before .before .before in
+    let p = s .before .before .before .args in
+    (omega arith, omega arith, one-code-more (p .labels .now) (p .list .now) _ _ _ (s .loop .inv .2) (s .before .label .ensures) (c .before .label2 .ensures) (c .if1 .left))
 
 returns-2 : tie.Need-returns-2 Inv-loop μ-loop
 returns-2 c = λ e. record { means = λ x h b hb. c .before .loop .inv .2 .means x h b (omega arith) }
@@ -60,12 +54,10 @@ one-label-spec =
     (tie.spec
     Inv-loop
     μ-loop
-    element-copy-out-wide
-    wide-requires
+    element-copy-out-label
     label-requires
     loop-holds
-    element-copy-out-wide-2
-    wide-requires-2
+    element-copy-out-label-2
     label-requires-2
     returns
     add-a

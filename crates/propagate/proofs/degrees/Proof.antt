@@ -19,8 +19,11 @@ live-requires-2 c κs = search needs
 loop-holds : tie.Need-loop-holds Inv-loop μ-loop
 loop-holds c = search needs
 
-label-requires : tie.Need-label-requires Inv-loop μ-loop
-label-requires c κs = search needs
+element-copy-out-wide : tie.Need-element-copy-out-wide Inv-loop μ-loop
+element-copy-out-wide c = search needs
+
+wide-requires : tie.Need-wide-requires Inv-loop μ-loop
+wide-requires c κs = search needs
 
 mul-ones : tie.Need-mul-ones Inv-loop μ-loop
 mul-ones c = search needs
@@ -58,8 +61,8 @@ mul-out c = search needs
 array-read-wide : tie.Need-array-read-wide Inv-loop μ-loop
 array-read-wide c = search needs
 
-wide-requires : tie.Need-wide-requires Inv-loop μ-loop
-wide-requires c κs = search needs
+wide-requires-2 : tie.Need-wide-requires-2 Inv-loop μ-loop
+wide-requires-2 c κs = search needs
 
 add-out : tie.Need-add-out Inv-loop μ-loop
 add-out c = search needs
@@ -94,7 +97,8 @@ degrees-spec =
     live-requires
     live-requires-2
     loop-holds
-    label-requires
+    element-copy-out-wide
+    wide-requires
     mul-ones
     mul-ones-2
     element-copy-out-ones
@@ -107,7 +111,7 @@ degrees-spec =
     add-apart
     mul-out
     array-read-wide
-    wide-requires
+    wide-requires-2
     add-out
     cast-out
     mul-out-2

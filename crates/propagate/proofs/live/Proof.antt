@@ -13,14 +13,17 @@ abbrev μ-loop : tie.MeasureT-loop
 loop-holds : tie.Need-loop-holds Inv-loop μ-loop
 loop-holds c = search needs
 
-mul-label : tie.Need-mul-label Inv-loop μ-loop
-mul-label c = search needs
+mul-wide : tie.Need-mul-wide Inv-loop μ-loop
+mul-wide c = search needs
 
-add-label : tie.Need-add-label Inv-loop μ-loop
-add-label c = search needs
+add-wide : tie.Need-add-wide Inv-loop μ-loop
+add-wide c = search needs
 
-label-requires : tie.Need-label-requires Inv-loop μ-loop
-label-requires c κs = search needs
+element-copy-out-wide : tie.Need-element-copy-out-wide Inv-loop μ-loop
+element-copy-out-wide c = search needs
+
+wide-requires : tie.Need-wide-requires Inv-loop μ-loop
+wide-requires c κs = search needs
 
 mul-if1 : tie.Need-mul-if1 Inv-loop μ-loop
 mul-if1 c = search needs
@@ -50,9 +53,10 @@ live-spec =
     Inv-loop
     μ-loop
     loop-holds
-    mul-label
-    add-label
-    label-requires
+    mul-wide
+    add-wide
+    element-copy-out-wide
+    wide-requires
     mul-if1
     add-if1
     shl-row

@@ -13,26 +13,26 @@ abbrev μ-loop : tie.MeasureT-loop
 loop-holds : tie.Need-loop-holds Inv-loop μ-loop
 loop-holds c = search needs
 
-element-copy-out-wide : tie.Need-element-copy-out-wide Inv-loop μ-loop
-element-copy-out-wide c = search needs
-
-wide-requires : tie.Need-wide-requires Inv-loop μ-loop
-wide-requires c κs = search needs
+element-copy-out-label : tie.Need-element-copy-out-label Inv-loop μ-loop
+element-copy-out-label c = search needs
 
 label-requires : tie.Need-label-requires Inv-loop μ-loop
 label-requires c κs = search needs
 
+wide-requires : tie.Need-wide-requires Inv-loop μ-loop
+wide-requires c κs = search needs
+
 count-one-requires : tie.Need-count-one-requires Inv-loop μ-loop
 count-one-requires c κs = search needs
 
-element-copy-out-wide-2 : tie.Need-element-copy-out-wide-2 Inv-loop μ-loop
-element-copy-out-wide-2 c = search needs
-
-wide-requires-2 : tie.Need-wide-requires-2 Inv-loop μ-loop
-wide-requires-2 c κs = search needs
+element-copy-out-label-2 : tie.Need-element-copy-out-label-2 Inv-loop μ-loop
+element-copy-out-label-2 c = search needs
 
 label-requires-2 : tie.Need-label-requires-2 Inv-loop μ-loop
 label-requires-2 c κs = search needs
+
+wide-requires-2 : tie.Need-wide-requires-2 Inv-loop μ-loop
+wide-requires-2 c κs = search needs
 
 count-one-requires-2 : tie.Need-count-one-requires-2 Inv-loop μ-loop
 count-one-requires-2 c κs = search needs
@@ -56,13 +56,13 @@ uses-spec =
     Inv-loop
     μ-loop
     loop-holds
-    element-copy-out-wide
-    wide-requires
+    element-copy-out-label
     label-requires
+    wide-requires
     count-one-requires
-    element-copy-out-wide-2
-    wide-requires-2
+    element-copy-out-label-2
     label-requires-2
+    wide-requires-2
     count-one-requires-2
     add-i
     loop-less

@@ -32,6 +32,9 @@ mul-h c = search needs
 argument-requires : tie.Need-argument-requires Inv-loop μ-loop
 argument-requires c κs = search needs
 
+wide-requires-2 : tie.Need-wide-requires-2 Inv-loop μ-loop
+wide-requires-2 c κs = search needs
+
 mul-h-2 : tie.Need-mul-h-2 Inv-loop μ-loop
 mul-h-2 c = search needs
 
@@ -75,6 +78,7 @@ buckets-spec =
     wide-requires
     mul-h
     argument-requires
+    wide-requires-2
     mul-h-2
     add-h
     array-read-earlier

@@ -4,8 +4,11 @@ use borrow.Author.Needs.{needs}
 use Rattle.rules.proofs.strike_row.Statement.{statement}
 use Rattle.rules.proofs.strike_row.Tie as tie
 
-label-requires : tie.Need-label-requires
-label-requires c κs = search needs
+element-copy-out-wide : tie.Need-element-copy-out-wide
+element-copy-out-wide c = search needs
+
+wide-requires : tie.Need-wide-requires
+wide-requires c κs = search needs
 
 returns : tie.Need-returns
 returns c = search needs
@@ -27,7 +30,7 @@ strike-half-requires-2 c κs = search needs
 
 returns-3 : tie.Need-returns-3
 returns-3 c =
-    let g = c .before .before .before .before .before .before .before .before .before .before .args .g in
+    let g = c .before .before .before .before .before .before .before .before .before .before .before .args .g in
     let one = c .before .before .before .before .before .single .ensures (c .before .before .before .before .if2 .left) in
     step (λ a t w. record { code = one .only (a g) (t .small g) (c .before .before .before .before .before .before .mask .ensures .means a w); marks = t .marks }) (chain (c .before .before .strike-half .ensures) (c .strike-half2 .ensures))
 
@@ -35,7 +38,8 @@ pub strike-row-spec : {M : Type 1} → statement M
 strike-row-spec =
     tie.close
     (tie.spec
-    label-requires
+    element-copy-out-wide
+    wide-requires
     returns
     mask-requires
     single-requires

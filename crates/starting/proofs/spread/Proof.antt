@@ -1,6 +1,7 @@
 -- `starting::spread` meets its contract.
 use Prim.Native.Nat.{_-_, _≤_}
 use Rattle.knowledge.specs.Knows.{Means, Masks}
+use Rattle.knowledge.proofs.Keeping.{label-code}
 use Rattle.starting.specs.Given.{Grouped}
 use Rattle.starting.proofs.Masks.{masks-none, masks-put}
 use borrow.Author.Needs.{needs}
@@ -17,8 +18,11 @@ abbrev μ-loop : tie.MeasureT-loop
 loop-holds : tie.Need-loop-holds Inv-loop μ-loop
 loop-holds c = (omega arith, record { means = λ a g. masks-none 128 a })
 
-label-requires : tie.Need-label-requires Inv-loop μ-loop
-label-requires c κs = search needs
+element-copy-out-wide : tie.Need-element-copy-out-wide Inv-loop μ-loop
+element-copy-out-wide c = search needs
+
+wide-requires : tie.Need-wide-requires Inv-loop μ-loop
+wide-requires c κs = search needs
 
 mask-requires : tie.Need-mask-requires Inv-loop μ-loop
 mask-requires c κs = search needs
@@ -37,10 +41,11 @@ loop-less c = omega arith
 
 loop-again : tie.Need-loop-again Inv-loop μ-loop
 loop-again c =
-    let h = c .before .before .before .loop in (
+    let h = c .before .before .before .before .loop in
+    let l = c .before .before .before .before .before .args .labels .now in (
       omega arith,
       record {
-        means = λ a g. masks-put (h .out) (h .i) (c .mask .result) a (h .inv .1 .means a g) (λ b. c .mask .ensures .means a (g .masks) (rw (c .before .label .ensures .means a (g .labels)) b));
+        means = λ a g. masks-put (h .out) (h .i) (c .mask .result) a (h .inv .1 .means a g) (λ b. c .mask .ensures .means a (g .masks) (rw (label-code l (h .i) _ (omega arith) (c .before .wide .ensures .0) .means a (g .labels)) b));
       },
     )
 
@@ -54,7 +59,8 @@ spread-spec =
     Inv-loop
     μ-loop
     loop-holds
-    label-requires
+    element-copy-out-wide
+    wide-requires
     mask-requires
     mul-out
     array-write-out
