@@ -22,7 +22,7 @@ use Rattle.group.proofs.Replies.{answer-exactly}
 pub longest-bytes : List ℕ
 longest-bytes = encode longestSheet
 
--- the name without arguments holds 0, each other one its first argument's code and one more
+-- the name without arguments holds 0, each other one the code behind that of its first argument, up to 127
 counting : Structure
 counting = record { size = λ s. 128; table = λ f cs. cond (eqb f 0) 0 (min 127 (at cs 0 + 1)) }
 
