@@ -23,7 +23,8 @@ merge-requires c κs = search needs
 returns-3 : tie.Need-returns-3
 returns-3 c =
     let there = c .before .before .before .before .before .before .before in
-    step (λ a e k. k .labels _ (there .before .if1 .left) ∙ e ∙ sym (k .labels _ (there .if2 .left))) (c .merge .ensures)
+    let p = there .before .before .args in
+    step (λ a e k. k .labels (p .i) (there .before .if1 .left) ∙ e ∙ sym (k .labels (p .j) (there .if2 .left))) (c .merge .ensures)
 
 merge-requires-2 : tie.Need-merge-requires-2
 merge-requires-2 c κs = search needs
@@ -31,7 +32,8 @@ merge-requires-2 c κs = search needs
 returns-4 : tie.Need-returns-4
 returns-4 c =
     let there = c .before .before .before .before .before .before .before .before in
-    step (λ a e k. k .labels _ (there .if2 .left) ∙ sym e ∙ sym (k .labels _ (there .before .if1 .left))) (c .merge2 .ensures)
+    let p = there .before .before .args in
+    step (λ a e k. k .labels (p .j) (there .if2 .left) ∙ sym e ∙ sym (k .labels (p .i) (there .before .if1 .left))) (c .merge2 .ensures)
 
 returns-5 : tie.Need-returns-5
 returns-5 c = search needs
