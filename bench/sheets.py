@@ -7,7 +7,7 @@ def record(kind, *payload):
 
 
 class Sheet:
-    """A sheet's records as lists; only for accepted sheets."""
+    """A sheet's records as lists, fills left out; only for accepted sheets."""
 
     def __init__(self, data):
         self.bounds, self.symbols, self.terms, self.literals, self.total = [], [], [], [], 0
@@ -24,7 +24,7 @@ class Sheet:
                 self.terms.append(payload)
             elif kind in (4, 5):
                 self.literals.append((kind == 4, *payload))
-            else:
+            elif kind == 6:
                 self.total = payload[0]
 
     def sort(self, term):

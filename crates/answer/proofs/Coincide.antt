@@ -4,7 +4,7 @@ use mathlib.Core.Path.{_≡_, ap, sym, _∙_, subst}
 use mathlib.Core.List.{List, [], _∷_, map}
 use lib.ListN.{length}
 use native.Mathlib.Omega.{arith}
-use Rattle.logic.specs.Sheet.{Sheet, symbolAt, termAt}
+use Rattle.logic.specs.Sheet.{Sheet, symbolAt, termAt, fillAt}
 use Rattle.prelude.specs.Tests.{Each}
 use Rattle.prelude.specs.Lists.{at}
 use Rattle.prelude.proofs.Lists.{firsts-same, sumTo-same}
@@ -72,9 +72,15 @@ module _ (sh : Sheet) (w : WellFormed sh) (M N : Structure) (a : Coincide sh M N
         kept = λ f h keep x l free.
             let r = coincide-unreached k f h (x ∷ []) (subst (λ (ss : List ℕ). InSorts (N .size) ss (x ∷ [])) (sym keep) (l, tt)) free in
             r .1 ∙ u .kept f h keep x (omega (arith, a .size (symbolAt sh f .result) (w .result f h))) (r .0);
-        zero = λ f h other xs i free.
+        filled = λ m h other xs i free.
+            let f = fillAt sh m .symbol in
+            let r = coincide-unreached k f (w .filled m h) xs i free in
+            r .1
+            ∙ u .filled m h other xs (in-sorts-same (length (sh .bounds)) (M .size) (N .size) (a .size) (symbolAt sh f .params) xs (w .params f (w .filled m h)) i) (r .0)
+            ∙ ap (λ (cs : List ℕ). at cs (fillAt sh m .term)) (sym (coincide-codes k));
+        zero = λ f h other bare xs i free.
             let r = coincide-unreached k f h xs i free in
-            r .1 ∙ u .zero f h other xs (in-sorts-same (length (sh .bounds)) (M .size) (N .size) (a .size) (symbolAt sh f .params) xs (w .params f h) i) (r .0);
+            r .1 ∙ u .zero f h other bare xs (in-sorts-same (length (sh .bounds)) (M .size) (N .size) (a .size) (symbolAt sh f .params) xs (w .params f h) i) (r .0);
       }
 
   pub coincide-answers : (e : Entry) → Answers sh e M → Answers sh e N

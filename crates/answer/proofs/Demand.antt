@@ -1,14 +1,16 @@
 -- Demand 3 holds of every accepted sheet. Structures and what fits go over into each other: a candidate that satisfies the sheet has
 -- sizes and codes that fit; what fits are the sizes and codes of the tables made from them, whatever the unreached cells hold.
-use Prim.Native.Nat.{ℕ, _≤_, _<_}
-use mathlib.Core.Path.{_≡_, refl, ap, sym, _∙_, subst}
+use Prim.Native.Nat.{ℕ, zero, suc, _≤_, _<_}
+use mathlib.Core.Path.{_≡_, refl, ap, ap₂, sym, _∙_, subst}
 use mathlib.Core.Logic.{_⊎_, inl, inr}
-use mathlib.Core.Bool.{Bool, true, false, true≢false}
+use mathlib.Core.Bool.{Bool, true, false, true≢false, cond}
 use mathlib.Core.List.{List, [], _∷_, map}
 use mathlib.Core.Option.{Option, none, some, Option·getD}
-use lib.ListN.{length}
+use lib.ListN.{length, getD}
+use lib.Dec.{eqb}
+use borrow.Author.Tests.{eqb-true, eqb-false}
 use native.Mathlib.Omega.{arith}
-use Rattle.logic.specs.Sheet.{Sheet, boundAt, symbolAt, termAt}
+use Rattle.logic.specs.Sheet.{Sheet, Fill, boundAt, symbolAt, termAt, fillAt, noFill}
 use Rattle.logic.specs.WellFormed.{WellFormed}
 use Rattle.prelude.specs.Lists.{at, sumTo, firsts}
 use Rattle.prelude.specs.Tests.{sameList}
@@ -20,8 +22,8 @@ use Rattle.logic.proofs.Orders.{no-later-exactly}
 use Rattle.logic.proofs.Meaning.{code-below, code-congruent, codes-own, length-codes, of-one-argument}
 use Rattle.layout.specs.Layout.{accepted, reading}
 use Rattle.layout.proofs.Answers.{accepted-well-formed}
-use Rattle.answer.specs.Answer.{Entry, entryOf, cellOf, reachedCells, cellAt, structureWith, structureOf, toItself, unforced, answer, sum}
-use Rattle.answer.specs.Demand.{Answers, Demand, Hopeless, Unreached, ToItself, InTables, StaysInRange}
+use Rattle.answer.specs.Answer.{Entry, entryOf, cellOf, reachedCells, cellAt, structureWith, structureOf, toItself, fillCode, unforced, answer, sum}
+use Rattle.answer.specs.Demand.{Answers, Demand, Hopeless, Unreached, ToItself, Unfilled, InTables, StaysInRange}
 use Rattle.answer.proofs.Lists.{found-or-none}
 use Rattle.answer.proofs.Solving.{TermOf, term-of, own-cell, solution-same}
 use Rattle.answer.proofs.Listing.{Fits, Chosen, chosen, Ahead, Sooner, sooner-asym, none-fits, sum-firsts}
@@ -137,7 +139,7 @@ answers-with sh w e q u t =
         ]
 
 -- the test tells whether a symbol takes one argument, of the sort of its result
-to-itself-test : (sh : Sheet) (f : ℕ) → ToItself sh f → toItself (symbolAt sh f) ≡ true
+pub to-itself-test : (sh : Sheet) (f : ℕ) → ToItself sh f → toItself (symbolAt sh f) ≡ true
 to-itself-test sh f k = ap (λ (l : List ℕ). sameList l (symbolAt sh f .result ∷ [])) k ∙ same-sameList (symbolAt sh f .result ∷ [])
 
 pub to-itself-or-not : (sh : Sheet) (f : ℕ) → ToItself sh f ⊎ ((ToItself sh f → ⊥) × (toItself (symbolAt sh f) ≡ false))
@@ -147,14 +149,52 @@ to-itself-or-not sh f = step (toItself (symbolAt sh f)) refl
     step true q = inl (sameList-same (symbolAt sh f .params) (symbolAt sh f .result ∷ []) q)
     step false q = inr (λ k. true≢false (sym (to-itself-test sh f k) ∙ q), q)
 
--- the rule of the answer, in both its cases
+-- what is filled in: the code of a fill of the symbol, or 0 where there is none
+filled-in : (c : ℕ → ℕ) (f : ℕ) (xs : List Fill) (P : ℕ → Type 0)
+    → ((k : ℕ) → k < length xs → getD xs k noFill .symbol ≡ f → P (c (getD xs k noFill .term)))
+    → (((k : ℕ) → k < length xs → getD xs k noFill .symbol ≡ f → ⊥) → P 0)
+    → P (Option·getD (fillCode c f xs) 0)
+filled-in c f [] P some-fill no-fill = no-fill (λ k h e. omega arith)
+filled-in c f (x ∷ xs) P some-fill no-fill = step (eqb (x .symbol) f) refl (filled-in c f xs P (λ k h e. some-fill (suc k) (omega arith) e))
+  where
+    free : eqb (x .symbol) f ≡ false → ((k : ℕ) → k < length xs → getD xs k noFill .symbol ≡ f → ⊥) → (k : ℕ) → k < length (x ∷ xs) → getD (x ∷ xs) k noFill .symbol ≡ f → ⊥
+    free q bare zero h e = eqb-false (x .symbol) f q e
+    free q bare (suc k) h e = bare k (omega arith) e
+
+    step : (b : Bool) → eqb (x .symbol) f ≡ b → ((((k : ℕ) → k < length xs → getD xs k noFill .symbol ≡ f → ⊥) → P 0) → P (Option·getD (fillCode c f xs) 0))
+        → P (Option·getD (cond (eqb (x .symbol) f) (some (c (x .term))) (fillCode c f xs)) 0)
+    step true q rest = subst (λ (b : Bool). P (Option·getD (cond b (some (c (x .term))) (fillCode c f xs)) 0)) (sym q) (some-fill 0 (omega arith) (eqb-true (x .symbol) f q))
+    step false q rest = subst (λ (b : Bool). P (Option·getD (cond b (some (c (x .term))) (fillCode c f xs)) 0)) (sym q) (rest (λ bare. no-fill (free q bare)))
+
+-- it depends only on the codes of the terms by which symbols are filled
+pub fill-code-same : (c d : ℕ → ℕ) (f : ℕ) (xs : List Fill) → ((k : ℕ) → k < length xs → c (getD xs k noFill .term) ≡ d (getD xs k noFill .term)) → fillCode c f xs ≡ fillCode d f xs
+fill-code-same c d f [] h = refl
+fill-code-same c d f (x ∷ xs) h =
+    ap₂ (λ (v : ℕ) (r : Option ℕ). cond (eqb (x .symbol) f) (some v) r) (h 0 (omega arith)) (fill-code-same c d f xs (λ k l. h (suc k) (omega arith)))
+
+-- the rule of the answer, in its cases
 pub unforced-kept : (sh : Sheet) (e : Entry) (f x : ℕ) → ToItself sh f → unforced sh e f (x ∷ []) ≡ x
 unfolding unforced
 unforced-kept sh e f x k = rw (to-itself-test sh f k) refl
 
-pub unforced-zero : (sh : Sheet) (e : Entry) (f : ℕ) (xs : List ℕ) → (ToItself sh f → ⊥) → unforced sh e f xs ≡ 0
-unfolding unforced
-unforced-zero sh e f xs other = elim (to-itself-or-not sh f) [ inl k ↦ absurd (other k) | inr r ↦ rw (r .1) refl ]
+module _ (sh : Sheet) (e : Entry) (f : ℕ) (xs : List ℕ) (other : ToItself sh f → ⊥) where
+  -- in any other table what is filled in
+  pub unforced-other : unforced sh e f xs ≡ Option·getD (fillCode (at (e .codes)) f (sh .fills)) 0
+  unfolding unforced
+  unforced-other = elim (to-itself-or-not sh f) [ inl k ↦ absurd (other k) | inr r ↦ rw (r .1) refl ]
+
+  pub unforced-by : (P : ℕ → Type 0) → ((k : ℕ) → k < length (sh .fills) → fillAt sh k .symbol ≡ f → P (at (e .codes) (fillAt sh k .term))) → (Unfilled sh f → P 0) → P (unforced sh e f xs)
+  unforced-by P some-fill no-fill = subst P (sym unforced-other) (filled-in (at (e .codes)) f (sh .fills) P some-fill no-fill)
+
+  pub unforced-zero : Unfilled sh f → unforced sh e f xs ≡ 0
+  unforced-zero bare = unforced-by (λ v. v ≡ 0) (λ k h q. absurd (bare k h q)) (λ bare. refl)
+
+  -- no two fills are of one symbol
+  pub unforced-filled : WellFormed sh → (k : ℕ) → k < length (sh .fills) → fillAt sh k .symbol ≡ f → unforced sh e f xs ≡ at (e .codes) (fillAt sh k .term)
+  unforced-filled w k h q =
+      unforced-by (λ v. v ≡ at (e .codes) (fillAt sh k .term))
+      (λ m l r. ap (λ (x : ℕ). at (e .codes) (fillAt sh x .term)) (w .once m k l h (r ∙ sym q)))
+      (λ bare. absurd (bare k h q))
 
 -- what the rule puts in a cell of the answer is a code of its sort
 pub unforced-in-range : (sh : Sheet) → WellFormed sh → StaysInRange unforced sh
@@ -163,7 +203,12 @@ unforced-in-range sh w e q f l cs i =
       | inl k ↦
           of-one-argument (at (e .sizes)) (symbolAt sh f .result) (symbolAt sh f .params) k (λ xs. unforced sh e f xs < at (e .sizes) (symbolAt sh f .result))
           (λ x h. omega (arith, unforced-kept sh e f x k)) cs i
-      | inr r ↦ omega (arith, unforced-zero sh e f cs (r .0), fits-nonempty sh w (at (e .sizes)) (at (e .codes)) (chosen sh w e q .fits) (symbolAt sh f .result) (w .result f l))
+      | inr r ↦
+          unforced-by sh e f cs (r .0) (λ v. v < at (e .sizes) (symbolAt sh f .result))
+          (λ k h p.
+          subst (λ (s : ℕ). at (e .codes) (fillAt sh k .term) < at (e .sizes) s) (w .fillSort k h ∙ ap (λ (g : ℕ). symbolAt sh g .result) p)
+          (chosen sh w e q .fits .range (fillAt sh k .term) (w .filler k h)))
+          (λ bare. fits-nonempty sh w (at (e .sizes)) (at (e .codes)) (chosen sh w e q .fits) (symbolAt sh f .result) (w .result f l))
     ]
 
 pub demand : (sh : Sheet) → WellFormed sh → Demand sh
@@ -177,7 +222,11 @@ demand sh w =
       unreached = λ e q.
           record {
             kept = λ f h k x l free. made-unreached sh w e (chosen sh w e q .fits) (unforced sh e) f (x ∷ []) free ∙ unforced-kept sh e f x k;
-            zero = λ f h other xs i free. made-unreached sh w e (chosen sh w e q .fits) (unforced sh e) f xs free ∙ unforced-zero sh e f xs other;
+            filled = λ k h other xs i free.
+                made-unreached sh w e (chosen sh w e q .fits) (unforced sh e) (fillAt sh k .symbol) xs free
+                ∙ unforced-filled sh e (fillAt sh k .symbol) xs other w k h refl
+                ∙ sym (made-code sh w e (chosen sh w e q .fits) (unforced sh e) (fillAt sh k .term) (w .filler k h));
+            zero = λ f h other bare xs i free. made-unreached sh w e (chosen sh w e q .fits) (unforced sh e) f xs free ∙ unforced-zero sh e f xs other bare;
           };
     }
   where

@@ -4,5 +4,6 @@ pub mod Solving
 pub mod Listing
 pub mod Demand
 pub mod Rules
+pub mod Fills
 pub mod Joint
 pub mod Coincide

@@ -6,7 +6,7 @@ use mathlib.Core.Logic.{inl, inr, _↔_}
 use mathlib.Core.List.{List, map}
 use mathlib.Core.Option.{some}
 use lib.ListN.{length}
-use Rattle.logic.specs.Sheet.{Sheet, symbolAt, termAt}
+use Rattle.logic.specs.Sheet.{Sheet, symbolAt, termAt, fillAt}
 use Rattle.logic.specs.WellFormed.{WellFormed}
 use Rattle.logic.specs.Structure.{Structure, InSorts}
 use Rattle.logic.proofs.Orders.{no-later-both}
@@ -15,10 +15,10 @@ use Rattle.prelude.specs.Lists.{at}
 use Rattle.layout.specs.Layout.{accepted, reading}
 use Rattle.layout.proofs.Answers.{accepted-well-formed}
 use Rattle.answer.specs.Answer.{Entry, Rule, answer, structureWith, structureOf, unforced}
-use Rattle.answer.specs.Demand.{Answers, Unreached, Unforced, AnswersBy, SameAnswer, StaysInRange}
+use Rattle.answer.specs.Demand.{Answers, Unreached, ToItself, Unforced, AnswersBy, SameAnswer, StaysInRange}
 use Rattle.answer.proofs.Lists.{found-or-none}
 use Rattle.answer.proofs.Listing.{chosen}
-use Rattle.answer.proofs.Demand.{demand, answers-with, made-unreached, to-itself-or-not, unforced-kept, unforced-zero, fits-nonempty, unforced-in-range}
+use Rattle.answer.proofs.Demand.{demand, answers-with, made-unreached, to-itself-or-not, unforced-kept, unforced-by, fits-nonempty, unforced-in-range}
 
 module _ (sh : Sheet) (w : WellFormed sh) where
   -- a structure that answers a sheet answers it with its answer
@@ -79,7 +79,11 @@ by-unforced sh e M a u = record { answers = a; unreached = step }
           | inl k ↦
               of-one-argument (M .size) (symbolAt sh f .result) (symbolAt sh f .params) k (λ ys. Unreached sh M f ys → M .table f ys ≡ unforced sh e f ys)
               (λ x l unreached. u .kept f h k x l unreached ∙ sym (unforced-kept sh e f x k)) xs i free
-          | inr r ↦ u .zero f h (r .0) xs i free ∙ sym (unforced-zero sh e f xs (r .0))
+          | inr r ↦
+              unforced-by sh e f xs (r .0) (λ v. M .table f xs ≡ v)
+              (λ k l q. subst (λ (g : ℕ). (ToItself sh g → ⊥) → InSorts (M .size) (symbolAt sh g .params) xs → Unreached sh M g xs → M .table g xs ≡ at (e .codes) (fillAt sh k .term)) q
+              (λ other j unreached. u .filled k l other xs j unreached ∙ ap (λ (cs : List ℕ). at cs (fillAt sh k .term)) (a .codes)) (r .0) i free)
+              (λ bare. u .zero f h (r .0) bare xs i free)
         ]
 
 -- THEOREM: by any two rules that stay in range every accepted sheet has the same answer but for the cells that no term reaches

@@ -6,7 +6,7 @@ use mathlib.Core.List.{List, [], _∷_, _++_, map}
 use mathlib.Core.Option.{Option, none, some, Option·getD}
 use lib.ListN.{length}
 use lib.Dec.{eqb}
-use Rattle.logic.specs.Sheet.{Sheet, Bound, Symbol, Term, Literal, symbolAt}
+use Rattle.logic.specs.Sheet.{Sheet, Bound, Symbol, Term, Literal, Fill, symbolAt}
 use Rattle.prelude.specs.Tests.{sameList}
 use Rattle.prelude.specs.Lists.{at, sumTo, firsts, run}
 use Rattle.logic.specs.Structure.{Structure}
@@ -123,10 +123,15 @@ Rule = Sheet → Entry → ℕ → List ℕ → ℕ
 abbrev pub toItself : Symbol → Bool
 toItself f = sameList (f .params) (f .result ∷ [])
 
+-- the code of the term by which a symbol is filled, where it has a fill
+abbrev pub fillCode : (ℕ → ℕ) → ℕ → List Fill → Option ℕ
+fillCode c f [] = none
+fillCode c f (x ∷ xs) = let r = fillCode c f xs in cond (eqb (x .symbol) f) (some (c (x .term))) r
+
 -- what a cell that no term reaches holds, in the table of symbol f at the codes cs: where the symbol takes one argument, of the sort of its
--- result, the argument's own code; in any other table 0
+-- result, the argument's own code; in any other table the code of the symbol's fill, 0 where it has none
 unfoldable pub unforced : Rule
-unforced sh e f cs = cond (toItself (symbolAt sh f)) (at cs 0) 0
+unforced sh e f cs = cond (toItself (symbolAt sh f)) (at cs 0) (Option·getD (fillCode (at (e .codes)) f (sh .fills)) 0)
 
 -- the structure of the answer
 abbrev pub structureOf : Sheet → Entry → Structure

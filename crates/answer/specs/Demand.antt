@@ -7,7 +7,7 @@ use mathlib.Core.Logic.{_↔_}
 use mathlib.Core.List.{List, [], _∷_, map}
 use mathlib.Core.Option.{none, some}
 use lib.ListN.{length}
-use Rattle.logic.specs.Sheet.{Sheet, symbolAt, termAt}
+use Rattle.logic.specs.Sheet.{Sheet, symbolAt, termAt, fillAt}
 use Rattle.logic.specs.Structure.{Structure, InSorts, Candidate, Satisfies, codes, code}
 use Rattle.logic.specs.Order.{sizesOf, sumOf, NoLater}
 use Rattle.prelude.specs.Lists.{at}
@@ -36,11 +36,17 @@ Unreached sh M f xs = (i : ℕ) → i < length (sh .terms) → termAt sh i .symb
 abbrev pub ToItself : Sheet → ℕ → Type 0
 ToItself sh f = symbolAt sh f .params ≡ symbolAt sh f .result ∷ []
 
+-- the symbol f has no fill
+abbrev pub Unfilled : Sheet → ℕ → Type 0
+Unfilled sh f = (k : ℕ) → k < length (sh .fills) → fillAt sh k .symbol ≡ f → ⊥
+
 -- What the unforced cells of M's tables hold, those that no term reaches: one of a symbol with one argument, of the sort of its result, holds
--- its own argument's code; every other holds 0.
+-- its own argument's code, whether or not the symbol has a fill; one of any other symbol with a fill holds the code of the fill's term; every
+-- other holds 0.
 pub record Unforced (sh : Sheet) (M : Structure) : Type 0 where
   pub kept : (f : ℕ) → f < length (sh .symbols) → ToItself sh f → (x : ℕ) → x < M .size (symbolAt sh f .result) → Unreached sh M f (x ∷ []) → M .table f (x ∷ []) ≡ x
-  pub zero : (f : ℕ) → f < length (sh .symbols) → (ToItself sh f → ⊥) → (xs : List ℕ) → InSorts (M .size) (symbolAt sh f .params) xs → Unreached sh M f xs → M .table f xs ≡ 0
+  pub filled : (k : ℕ) → k < length (sh .fills) → (ToItself sh (fillAt sh k .symbol) → ⊥) → (xs : List ℕ) → InSorts (M .size) (symbolAt sh (fillAt sh k .symbol) .params) xs → Unreached sh M (fillAt sh k .symbol) xs → M .table (fillAt sh k .symbol) xs ≡ code M sh (fillAt sh k .term)
+  pub zero : (f : ℕ) → f < length (sh .symbols) → (ToItself sh f → ⊥) → Unfilled sh f → (xs : List ℕ) → InSorts (M .size) (symbolAt sh f .params) xs → Unreached sh M f xs → M .table f xs ≡ 0
 
 pub record Demand (sh : Sheet) : Type 0 where
   -- no answer (refusal 11) exactly when no candidate satisfies every statement

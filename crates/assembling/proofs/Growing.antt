@@ -16,17 +16,17 @@ use Rattle.assembling.specs.Parts.{Building, moreSymbols, moreTerms, mor
 no-symbols : (sh : Sheet) → packed sh ≡ packed (moreSymbols sh [])
 unfolding packed
 no-symbols sh =
-    ap (λ (l : List Symbol). packed (record { bounds = sh .bounds; symbols = l; terms = sh .terms; literals = sh .literals; total = sh .total })) (sym (append-nil (sh .symbols)))
+    ap (λ (l : List Symbol). packed (record { bounds = sh .bounds; symbols = l; terms = sh .terms; literals = sh .literals; fills = sh .fills; total = sh .total })) (sym (append-nil (sh .symbols)))
 
 no-terms : (sh : Sheet) → packed sh ≡ packed (moreTerms sh [])
 unfolding packed
 no-terms sh =
-    ap (λ (l : List Term). packed (record { bounds = sh .bounds; symbols = sh .symbols; terms = l; literals = sh .literals; total = sh .total })) (sym (append-nil (sh .terms)))
+    ap (λ (l : List Term). packed (record { bounds = sh .bounds; symbols = sh .symbols; terms = l; literals = sh .literals; fills = sh .fills; total = sh .total })) (sym (append-nil (sh .terms)))
 
 no-literals : (sh : Sheet) → packed sh ≡ packed (moreLiterals sh [])
 unfolding packed
 no-literals sh =
-    ap (λ (l : List Literal). packed (record { bounds = sh .bounds; symbols = sh .symbols; terms = sh .terms; literals = l; total = sh .total })) (sym (append-nil (sh .literals)))
+    ap (λ (l : List Literal). packed (record { bounds = sh .bounds; symbols = sh .symbols; terms = sh .terms; literals = l; fills = sh .fills; total = sh .total })) (sym (append-nil (sh .literals)))
 
 -- the next of lists one after the other, as a loop counts
 collect-next : {A : Type 0} (l : List A) (n : ℕ) (h : ℕ → List A) → (l ++ collect n h) ++ h n ≡ l ++ collect (n + 1) h
@@ -34,15 +34,15 @@ collect-next l n h = append-assoc l (collect n h) (h n) ∙ ap (λ (k : ℕ). l 
 
 next-symbols : (sh : Sheet) (n : ℕ) (h : ℕ → List Symbol) → packed (moreSymbols (moreSymbols sh (collect n h)) (h n)) ≡ packed (moreSymbols sh (collect (n + 1) h))
 next-symbols sh n h =
-    ap (λ (l : List Symbol). packed (record { bounds = sh .bounds; symbols = l; terms = sh .terms; literals = sh .literals; total = sh .total })) (collect-next (sh .symbols) n h)
+    ap (λ (l : List Symbol). packed (record { bounds = sh .bounds; symbols = l; terms = sh .terms; literals = sh .literals; fills = sh .fills; total = sh .total })) (collect-next (sh .symbols) n h)
 
 next-terms : (sh : Sheet) (n : ℕ) (h : ℕ → List Term) → packed (moreTerms (moreTerms sh (collect n h)) (h n)) ≡ packed (moreTerms sh (collect (n + 1) h))
 next-terms sh n h =
-    ap (λ (l : List Term). packed (record { bounds = sh .bounds; symbols = sh .symbols; terms = l; literals = sh .literals; total = sh .total })) (collect-next (sh .terms) n h)
+    ap (λ (l : List Term). packed (record { bounds = sh .bounds; symbols = sh .symbols; terms = l; literals = sh .literals; fills = sh .fills; total = sh .total })) (collect-next (sh .terms) n h)
 
 next-literals : (sh : Sheet) (n : ℕ) (h : ℕ → List Literal) → packed (moreLiterals (moreLiterals sh (collect n h)) (h n)) ≡ packed (moreLiterals sh (collect (n + 1) h))
 next-literals sh n h =
-    ap (λ (l : List Literal). packed (record { bounds = sh .bounds; symbols = sh .symbols; terms = sh .terms; literals = l; total = sh .total })) (collect-next (sh .literals) n h)
+    ap (λ (l : List Literal). packed (record { bounds = sh .bounds; symbols = sh .symbols; terms = sh .terms; literals = l; fills = sh .fills; total = sh .total })) (collect-next (sh .literals) n h)
 
 -- ---- what a loop keeps: the first n lists h stand behind what was there
 abbrev pub SymbolsTo : Parsed → ℕ → (ℕ → List Symbol) → Parsed → Type 0
@@ -134,6 +134,9 @@ namesFrom q p =
       equal = q .equal;
       left = q .left;
       right = q .right;
+      fills = q .fills;
+      filled = q .filled;
+      filler = q .filler;
       total = q .total;
     }
 

@@ -39,24 +39,24 @@ samesOf number start l = collect (length l) (λ k. same (number + k) (start + at
 -- a sheet with more names, expressions, statements behind its own
 abbrev pub moreSymbols : Sheet → List Symbol → Sheet
 moreSymbols sh l =
-    record { bounds = sh .bounds; symbols = sh .symbols ++ l; terms = sh .terms; literals = sh .literals; total = sh .total }
+    record { bounds = sh .bounds; symbols = sh .symbols ++ l; terms = sh .terms; literals = sh .literals; fills = sh .fills; total = sh .total }
 
 abbrev pub moreTerms : Sheet → List Term → Sheet
 moreTerms sh l =
-    record { bounds = sh .bounds; symbols = sh .symbols; terms = sh .terms ++ l; literals = sh .literals; total = sh .total }
+    record { bounds = sh .bounds; symbols = sh .symbols; terms = sh .terms ++ l; literals = sh .literals; fills = sh .fills; total = sh .total }
 
 abbrev pub moreLiterals : Sheet → List Literal → Sheet
 moreLiterals sh l =
-    record { bounds = sh .bounds; symbols = sh .symbols; terms = sh .terms; literals = sh .literals ++ l; total = sh .total }
+    record { bounds = sh .bounds; symbols = sh .symbols; terms = sh .terms; literals = sh .literals ++ l; fills = sh .fills; total = sh .total }
 
 -- n fields of these sizes, and nothing else; a sheet's names besides
 abbrev pub sized : ℕ → (ℕ → ℕ) → Sheet
 sized n size =
-    record { bounds = collect n (λ s. record { floor = size s; ceiling = size s } ∷ []); symbols = []; terms = []; literals = []; total = 0 }
+    record { bounds = collect n (λ s. record { floor = size s; ceiling = size s } ∷ []); symbols = []; terms = []; literals = []; fills = []; total = 0 }
 
 abbrev pub withNamesOf : Sheet → Sheet → Sheet
 withNamesOf sh new =
-    record { bounds = new .bounds; symbols = sh .symbols; terms = new .terms; literals = new .literals; total = new .total }
+    record { bounds = new .bounds; symbols = sh .symbols; terms = new .terms; literals = new .literals; fills = new .fills; total = new .total }
 
 -- ---- what it is built from
 -- a parsed sheet, as far as it has been built, stands for a sheet

@@ -1,10 +1,10 @@
--- Floors, ceilings, total and differ statements play no part: sheets with the same symbols, terms and same statements have the same groups.
+-- Floors, ceilings, total, differ statements and fills play no part: sheets with the same symbols, terms and same statements have the same groups.
 use Prim.Native.Nat.{ℕ, _<_}
 use native.Mathlib.Omega.{arith}
-use mathlib.Core.Path.{_≡_, ap, sym, _∙_, subst}
+use mathlib.Core.Path.{_≡_, refl, ap, sym, _∙_, subst}
 use mathlib.Core.List.{List, []}
 use lib.ListN.{length, getD}
-use Rattle.logic.specs.Sheet.{Sheet, Symbol, Literal, literalAt, noSymbol}
+use Rattle.logic.specs.Sheet.{Sheet, Symbol, Literal, literalAt, noSymbol, withoutFills}
 use Rattle.prelude.specs.Lists.{at}
 use Rattle.logic.specs.Structure.{Structure, InSorts, Interprets, SatisfiesSame, codesFrom, codes, Holds}
 use Rattle.logic.specs.WellFormed.{WellFormed}
@@ -42,3 +42,14 @@ group-alike sh other same w v e b =
     let from = forced-kept other sh (sym (same .sorts)) (sym (same .symbols)) (sym (same .terms)) (same .back) in
     group-exactly sh w e (groupOf other e) b .1
     (record { there = omega (arith, r .there); forced = from _ _ (r .forced); lowest = λ j h f. r .lowest j h (to _ _ f) })
+
+-- so it is of a sheet and the sheet without its fills
+pub without-fills : (sh : Sheet) → SameStatements sh (withoutFills sh)
+without-fills sh =
+    record {
+      sorts = refl;
+      symbols = refl;
+      terms = refl;
+      there = λ k h e. (k, h, refl);
+      back = λ k h e. (k, h, refl);
+    }

@@ -1,5 +1,5 @@
--- The interface: what the questions "forced" and "group" (docs/FORMAT.md, "The questions") mean, over structures. Floors, ceilings, total and
--- differ statements do not occur; that sheets which differ in nothing else have the same groups is `group-alike` of proofs/NoPart.antt.
+-- The interface: what the questions "forced" and "group" (docs/FORMAT.md, "The questions") mean, over structures. Floors, ceilings, total, differ
+-- statements and fills do not occur; that sheets which differ in nothing else have the same groups is `group-alike` of proofs/NoPart.antt.
 use Prim.Native.Nat.{ℕ, _<_}
 use mathlib.Core.Path.{_≡_}
 use mathlib.Core.Bool.{true}
@@ -27,8 +27,8 @@ pub record Labelled (sh : Sheet) (l : ℕ → ℕ) : Type 0 where
 abbrev pub SameIn : Sheet → Sheet → Type 0
 SameIn sh other = (k : ℕ) → k < length (sh .literals) → literalAt sh k .equal ≡ true → (m : ℕ) × (m < length (other .literals)) × (literalAt other m ≡ literalAt sh k)
 
--- two sheets with as many sorts, the same symbols and terms, and each other's same statements; they may differ in floors, ceilings, total and
--- differ statements, and in the order of the statements
+-- two sheets with as many sorts, the same symbols and terms, and each other's same statements; they may differ in floors, ceilings, total,
+-- differ statements and fills, and in the order of the statements
 pub record SameStatements (sh other : Sheet) : Type 0 where
   pub sorts : length (sh .bounds) ≡ length (other .bounds)
   pub symbols : sh .symbols ≡ other .symbols

@@ -1,4 +1,4 @@
--- The records of a parsed sheet are the encoding of every sheet that it stands for, so they fit a buffer of 2,161 bytes.
+-- The records of a parsed sheet without fills are the encoding of every sheet that it stands for, so they fit a buffer of 2,161 bytes.
 use Prim.Native.Nat.{ℕ, zero, suc, _+_, _≤_, _<_}
 use native.Mathlib.Omega.{arith}
 use mathlib.Core.Path.{_≡_, refl, ap, ap₂, sym, _∙_}
@@ -17,6 +17,7 @@ use Rattle.layout.specs.Encode.{boundBytes, symbolBytes, termBytes, literalByte
 use Rattle.layout.specs.declared.Parsed.{Parsed}
 use Rattle.layout.proofs.AtMostTwo.{Pair, each-weaken}
 use Rattle.layout.proofs.Longest.{encode-longest}
+use Rattle.layout.proofs.Pack.{no-entries, contents}
 use Rattle.tables.specs.Parts.{Packs, Limited}
 use Rattle.tables.proofs.Packing.{packs-views, symbols-packed, result-packed, param0-packed, param1-packed}
 use Rattle.tables.proofs.Whole.{packs-limited}
@@ -82,20 +83,22 @@ module _ (sh : Sheet) (p : Parsed) (k : Packs sh p) where
       kind true = refl
       kind false = refl
 
-  pub sheet-bytes : sheetBytes p ≡ encode sh
-  unfolding encode
-  sheet-bytes =
+  pub sheet-bytes : p .fills ≡ 0 → sheetBytes p ≡ encode sh
+  unfolding encode flatMap
+  sheet-bytes none =
       rw (
         by-entry boundBytes noBound (sh .bounds) (p .sorts) (sortRecord p) (v .sorts) sort-record,
         by-entry symbolBytes noSymbol (sh .symbols) (p .symbols) (symbolRecord p) (symbols-packed sh p k) symbol-record,
         by-entry termBytes noTerm (sh .terms) (p .terms) (termRecord p) (v .terms) term-record,
         by-entry literalBytes noLiteral (sh .literals) (p .literals) (literalRecord p) (v .literals) literal-record,
         v .total,
+        no-entries (sh .fills) (sym (contents p sh (k .same) .fills) ∙ none),
       )
+      (simp append-nil)
 
-  pub sheet-written : (d d′ : List ℕ) (r : ℕ) → Wrote d 0 (sheetBytes p) d′ r → SheetWritten sh d d′ r
-  sheet-written d d′ r w =
-      let f = wrote-front d (encode sh) d′ r (rw sheet-bytes at w) in
+  pub sheet-written : p .fills ≡ 0 → (d d′ : List ℕ) (r : ℕ) → Wrote d 0 (sheetBytes p) d′ r → SheetWritten sh d d′ r
+  sheet-written none d d′ r w =
+      let f = wrote-front d (encode sh) d′ r (rw (sheet-bytes none) at w) in
       record { length = f .0; bytes = f .1 }
 
 -- what holds of a parsed sheet that stands for some sheet: the counts and the total are within the limits, and the records fit
@@ -110,11 +113,11 @@ pub record Fits (p : Parsed) : Type 0 where
       + length (totalBytes (p .total))
       ≤ 2161
 
-pub stands-fits : (p : Parsed) → Stands p → Fits p
-stands-fits p s =
+pub stands-fits : (p : Parsed) → Stands p → p .fills ≡ 0 → Fits p
+stands-fits p s none =
     let sh = s .sheet in
     let k = s .packs in
-    let longest : length (sheetBytes p) ≤ 2161 = rw (sheet-bytes sh p k) (encode-longest sh (k .formed)) in
+    let longest : length (sheetBytes p) ≤ 2161 = omega (arith, ap length (sheet-bytes sh p k none), encode-longest sh (k .formed), contents p sh (k .same) .fills) in
     record {
       counts = packs-limited sh p k;
       total = omega (arith, packs-views sh p k .total, k .formed .total);

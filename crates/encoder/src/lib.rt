@@ -1,4 +1,4 @@
-// Writes a sheet from its parsed form: the records in the layout's order, in front of the caller's buffer.
+// Writes a sheet without fills from its parsed form: the records in the layout's order, in front of the caller's buffer.
 use layout::Parsed;
 use prelude::MISSING;
 use prelude::wide;
@@ -7,7 +7,7 @@ ghost use mathlib.Core.Bool.{cond};
 ghost use Prim.Native.Nat.{_+_, _≤_};
 ghost use lib.Dec.{eqb};
 ghost use lib.ListN.{length};
-ghost use Rattle.prelude.specs.Limits.{mostSorts, mostSymbols, mostTerms, mostLiterals, mostTotal, mostSheetBytes};
+ghost use Rattle.prelude.specs.Limits.{mostSorts, mostSymbols, mostTerms, mostLiterals, mostTotal, mostWrittenBytes};
 ghost use Rattle.prelude.specs.Lists.{collect};
 ghost use Rattle.logic.specs.Sheet.{Sheet};
 ghost use Rattle.layout.specs.Encode.{totalBytes};
@@ -16,9 +16,9 @@ ghost use Rattle.encoder.specs.SheetWritten.{Stands, SheetWritten};
 ghost use Rattle.prelude.specs.Pasted.{Wrote};
 ghost use Rattle.encoder.specs.Parts.{there, shortRecord, sortRecord, symbolRecord, termRecord, literalRecord};
 
-// Writes a sheet in front of the buffer, record by record, and gives its length.
+// Writes a sheet without fills in front of the buffer, record by record, and gives its length.
 pub fn write_sheet(p: Parsed, out: &mut [u8]) -> usize
-    requires { ⌜ Stands p × (mostSheetBytes ≤ length (now out)) ⌝ }
+    requires { ⌜ Stands p × (p .fills ≡ 0) × (mostWrittenBytes ≤ length (now out)) ⌝ }
     ensures { λ r. ⌜ ((sh : Sheet) → Packs sh p → SheetWritten sh (now (out .entry)) (now (out .exit)) r) ⌝ }
 {
     let sorts = write_sorts(p, out, 0);

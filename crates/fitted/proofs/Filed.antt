@@ -1,7 +1,7 @@
 -- A call that writes something has written the fitted sheet of the answer; read back it is that sheet, and find gives the old names the very same tables.
 use Prim.Native.Nat.{ℕ, _≤_}
 use native.Mathlib.Omega.{arith}
-use mathlib.Core.Path.{_≡_, refl, ap, sym, _∙_}
+use mathlib.Core.Path.{_≡_, refl, ap, sym, _∙_, subst}
 use mathlib.Core.Logic.{_⊎_, inl, inr, _↔_}
 use mathlib.Core.Bool.{Bool, true, false}
 use mathlib.Core.List.{List}
@@ -9,10 +9,9 @@ use mathlib.Core.Option.{Option, none, some}
 use native.Mathlib.Decide.{decLt}
 use lib.ListN.{length, take, drop, length-take}
 use lib.Seq.{take-append-le}
-use Rattle.prelude.specs.Tests.{Within}
 use Rattle.logic.specs.Sheet.{Sheet}
 use Rattle.logic.specs.WellFormed.{WellFormed}
-use Rattle.layout.specs.Layout.{Reading, accepted, refused, reading}
+use Rattle.layout.specs.Layout.{Reading, accepted, refused, reading, InSheet}
 use Rattle.layout.specs.Encode.{encode}
 use Rattle.layout.proofs.Answers.{accepted-well-formed, refused-number}
 use Rattle.tables.specs.Layout.{extent, encoded}
@@ -163,12 +162,12 @@ files-kept s out n e =
         }
 
 -- THEOREM: which numbers it refuses with, and that the place is 0 from 10 on
-pub refusal-number : (s : List ℕ) (room n i : ℕ) → fitting s room ≡ Refused n i → Within 1 9 n ⊎ (((n ≡ 10) ⊎ ((n ≡ 11) ⊎ (n ≡ 14))) × (i ≡ 0))
+pub refusal-number : (s : List ℕ) (room n i : ℕ) → fitting s room ≡ Refused n i → InSheet n ⊎ (((n ≡ 10) ⊎ ((n ≡ 11) ⊎ (n ≡ 14))) × (i ≡ 0))
 unfolding fitting
 refusal-number s room n i e = by-reading (reading s) refl
   where
     Listed : Type 0
-    Listed = Within 1 9 n ⊎ (((n ≡ 10) ⊎ ((n ≡ 11) ⊎ (n ≡ 14))) × (i ≡ 0))
+    Listed = InSheet n ⊎ (((n ≡ 10) ⊎ ((n ≡ 11) ⊎ (n ≡ 14))) × (i ≡ 0))
 
     -- a call that was turned down says so
     numbers : (m j : ℕ) → outcome s room ≡ turnedDown m j → (n ≡ m) × (i ≡ j)
@@ -188,8 +187,7 @@ refusal-number s room n i e = by-reading (reading s) refl
     by-reading : (r : Reading) → reading s ≡ r → Listed
     by-reading (refused m j) r =
         let y = numbers m j (outcome-refused s m j room r) in
-        let l = refused-number s m j r in
-        inl (omega (arith, y .0, l), omega (arith, y .0, l))
+        inl (subst InSheet (sym (y .0)) (refused-number s m j r))
     by-reading (accepted sh) r =
         elim (decLt room 2161) [
           | yes h ↦ let y = numbers 10 0 (outcome-short s sh room r h) in inr (inl (y .0), y .1)

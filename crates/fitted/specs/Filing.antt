@@ -6,7 +6,7 @@ use mathlib.Core.List.{List}
 use mathlib.Core.Option.{Option, none, some}
 use lib.ListN.{length}
 use lib.Dec.{ltb}
-use Rattle.prelude.specs.Limits.{mostSheetBytes}
+use Rattle.prelude.specs.Limits.{mostWrittenBytes}
 use Rattle.prelude.specs.Lists.{fronted}
 use Rattle.logic.specs.Sheet.{Sheet}
 use Rattle.layout.specs.Layout.{Reading, accepted, refused, reading}
@@ -33,7 +33,7 @@ filing sh (some e) = within (fittedSheet sh (structureOf sh e))
 -- Causes 1 to 9 as the sheet is read, then 10: the buffer is shorter than the longest sheet; then 11 and 14.
 abbrev pub consider : Reading → ℕ → Filing
 consider (refused n i) room = turnedDown n i
-consider (accepted sh) room = elim (ltb room mostSheetBytes) [ true ↦ turnedDown 10 0 | false ↦ filing sh (answer sh) ]
+consider (accepted sh) room = elim (ltb room mostWrittenBytes) [ true ↦ turnedDown 10 0 | false ↦ filing sh (answer sh) ]
 
 -- what becomes of a call with these sheet bytes and a buffer of this length
 unfoldable pub outcome : List ℕ → ℕ → Filing

@@ -6,7 +6,7 @@ use mathlib.Core.Bool.{false}
 use mathlib.Core.List.{List}
 use mathlib.Core.Option.{some}
 use lib.ListN.{length, take, drop}
-use Rattle.prelude.specs.Limits.{mostSheetBytes}
+use Rattle.prelude.specs.Limits.{mostWrittenBytes}
 use Rattle.prelude.specs.Lists.{at}
 use Rattle.logic.specs.Sheet.{Sheet}
 use Rattle.layout.specs.Layout.{accepted, reading}
@@ -38,7 +38,7 @@ pub record Filed (s out : List ℕ) (n : ℕ) : Type 0 where
   pub few : tooMany (fittedTo sheet entry) ≡ false
   -- the new bytes are accepted, as just the sheet meant; they are at most 2,161, and no byte behind them is touched
   pub accepts : reading (newBytes s out n) ≡ accepted (fittedTo sheet entry)
-  pub short : n ≤ mostSheetBytes
+  pub short : n ≤ mostWrittenBytes
   pub behind : drop n (bufferAfter s out) ≡ drop n out
   -- and find, with buffers that suffice, finds the same on both sheets
   pub same :

@@ -2,12 +2,12 @@
 use finder::Finding;
 use finder::MOST_TABLES;
 use layout::Parsed;
-use prelude::MOST_SHEET_BYTES;
 use prelude::MOST_TERMS;
+use prelude::MOST_WRITTEN_BYTES;
 ghost use mathlib.Core.Path.{_≡_};
 ghost use Prim.Native.Nat.{_≤_};
 ghost use lib.ListN.{length};
-ghost use Rattle.prelude.specs.Limits.{mostSheetBytes};
+ghost use Rattle.prelude.specs.Limits.{mostWrittenBytes};
 ghost use Rattle.finder.specs.Find.{ReadFrom};
 ghost use Rattle.fitted.specs.Filing.{fitting, bufferAfter, Files};
 ghost use Rattle.fitted.specs.Parts.{Answered, FilesAnswer};
@@ -31,7 +31,7 @@ pub fn fitted(sheet: &[u8], out: &mut [u8]) -> Fitting
     if number != 0 {
         return Fitting::Refused { number, place };
     }
-    if out.len() < MOST_SHEET_BYTES {
+    if out.len() < MOST_WRITTEN_BYTES {
         return Fitting::Refused {
             number: 10,
             place: 0,
@@ -43,7 +43,7 @@ pub fn fitted(sheet: &[u8], out: &mut [u8]) -> Fitting
 
 // Finds, and files what was found: cause 11, then cause 14, then the sheet.
 fn file_answer(p: Parsed, out: &mut [u8]) -> Fitting
-    requires { ⌜ ReadFrom p × (mostSheetBytes ≤ length (now out)) ⌝ }
+    requires { ⌜ ReadFrom p × (mostWrittenBytes ≤ length (now out)) ⌝ }
     ensures { λ r. ⌜ ((q : ReadFrom p) → Files (q .bytes) (now (out .entry)) (now (out .exit)) r) ⌝ }
 {
     let mut codes = [0u8; MOST_TERMS];
@@ -57,7 +57,7 @@ fn file_answer(p: Parsed, out: &mut [u8]) -> Fitting
 
 // Files the tables of an answer, which stand in front of `tables`.
 fn file_tables(p: Parsed, sum: usize, tables: &[u8], out: &mut [u8]) -> Fitting
-    requires { ⌜ Answered p sum (now tables) × (mostSheetBytes ≤ length (now out)) ⌝ }
+    requires { ⌜ Answered p sum (now tables) × (mostWrittenBytes ≤ length (now out)) ⌝ }
     ensures { λ r. ⌜ ((a : Answered p sum (now (tables .entry))) → FilesAnswer (a .sheet) (a .entry) (now (out .entry)) (now (out .exit)) r) ⌝ }
 {
     let sizes = tables::sizes_of(p.sorts, tables);

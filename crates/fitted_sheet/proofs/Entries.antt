@@ -47,7 +47,7 @@ abbrev pub cellSame : Sheet → Structure → ℕ → List ℕ → Literal
 cellSame sh M f cs = same (cellTerm sh M f cs) (codeTerm M (symbolAt sh f .result) (M .table f cs))
 
 module _ (sh : Sheet) (M : Structure) where
-  -- ---- the fields and the total
+  -- ---- the fields, the total and that there are no fills
   pub many-bounds : length (fittedSheet sh M .bounds) ≡ length (sh .bounds)
   unfolding fittedSheet
   many-bounds = length-singles (length (sh .bounds)) (sizedBound M)
@@ -59,6 +59,10 @@ module _ (sh : Sheet) (M : Structure) where
   pub total-of : fittedSheet sh M .total ≡ sumOf M sh
   unfolding fittedSheet
   total-of = refl
+
+  pub no-fills : length (fittedSheet sh M .fills) ≡ 0
+  unfolding fittedSheet
+  no-fills = refl
 
   -- ---- the names
   abbrev symbolsOf : ℕ → List Symbol

@@ -20,7 +20,7 @@ use Rattle.answer.proofs.Demand.{demand}
 use Rattle.fitted_sheet.specs.FittedSheet.{fittedSheet, codeTerm, codeArgs, cellTerm, tooMany, cellExpression}
 use Rattle.fitted_sheet.specs.Kept.{fittedTo}
 use Rattle.fitted_sheet.proofs.Lengths.{many-symbols}
-use Rattle.fitted_sheet.proofs.Entries.{IsCode, IsCell, codeExpression, codesDiffer, cellSame, many-bounds, bound-of, total-of, old-symbol, code-symbol, by-symbol, code-inside, code-there, cell-there, code-term, cell-term, by-term, code-sort, cell-sort, args-each, args-sorts, by-literal}
+use Rattle.fitted_sheet.proofs.Entries.{IsCode, IsCell, codeExpression, codesDiffer, cellSame, many-bounds, no-fills, bound-of, total-of, old-symbol, code-symbol, by-symbol, code-inside, code-there, cell-there, code-term, cell-term, by-term, code-sort, cell-sort, args-each, args-sorts, by-literal}
 
 -- the arguments of a cell's expression tell its codes
 args-tell : (M : Structure) (size : ℕ → ℕ) (ss cs ds : List ℕ) → InSorts size ss cs → InSorts size ss ds → codeArgs M ss cs ≡ codeArgs M ss ds → cs ≡ ds
@@ -155,6 +155,11 @@ module _ (sh : Sheet) (w : WellFormed sh) (M : Structure) (k : Candidate M sh) w
         left = λ x h. statements x h .0;
         right = λ x h. statements x h .1;
         sides = λ x h. statements x h .2;
+        fills = omega (arith, no-fills sh M);
+        filled = λ x h. absurd (omega (arith, no-fills sh M));
+        filler = λ x h. absurd (omega (arith, no-fills sh M));
+        fillSort = λ x h. absurd (omega (arith, no-fills sh M));
+        once = λ x y h h′ e. absurd (omega (arith, no-fills sh M));
       }
     where
       statements : (x : ℕ) → x < length (fittedSheet sh M .literals) → GoodLiteral (literalAt (fittedSheet sh M) x)

@@ -26,7 +26,7 @@ use Rattle.answer.proofs.Demand.{demand}
 use Rattle.answer.proofs.Rules.{answers-only, cell-of-term}
 use Rattle.fitted_sheet.specs.FittedSheet.{fittedSheet, codeSymbols, tableCells, cellTerm, tooMany}
 use Rattle.fitted_sheet.specs.Kept.{fittedTo, Kept}
-use Rattle.fitted_sheet.proofs.Entries.{IsCell, many-bounds, cell-there, cell-term, cell-listed}
+use Rattle.fitted_sheet.proofs.Entries.{IsCell, many-bounds, no-fills, cell-there, cell-term, cell-listed}
 use Rattle.fitted_sheet.proofs.Formed.{formed, fitted-formed}
 use Rattle.fitted_sheet.proofs.Answering.{extended, own-args, own-cell, fittedEntry, extended-answers}
 
@@ -90,7 +90,7 @@ pub fitted-kept : (sh : Sheet) → WellFormed sh → (e : Entry) → answer sh �
 fitted-kept sh w e q few =
     record {
       reads = encode-read (fittedTo sh e) v;
-      short = encode-longest (fittedTo sh e) v;
+      short = omega (arith, encode-longest (fittedTo sh e) v, no-fills sh (structureOf sh e));
       found = fittedEntry sh (structureOf sh e);
       answers = found;
       sizes = a .sizes;

@@ -74,7 +74,7 @@ tableSames sh M f = map (λ cs. same (cellTerm sh M f cs) (codeTerm M (symbolAt 
 abbrev pub sames : Sheet → Structure → List Literal
 sames sh M = collect (length (sh .symbols)) (tableSames sh M)
 
--- THE FITTED SHEET, the sum being its total.
+-- THE FITTED SHEET, the sum being its total. It has no fills: every cell is said.
 unfoldable pub fittedSheet : Sheet → Structure → Sheet
 fittedSheet sh M =
     record {
@@ -82,6 +82,7 @@ fittedSheet sh M =
       symbols = sh .symbols ++ codeSymbols sh M;
       terms = codeTerms sh M ++ cellTerms sh M;
       literals = differs sh M ++ sames sh M;
+      fills = [];
       total = sumOf M sh;
     }
 

@@ -4,7 +4,7 @@ use Prim.Native.Nat.{_≤_}
 use mathlib.Core.Path.{_≡_}
 use mathlib.Core.Option.{some}
 use lib.ListN.{length, take}
-use Rattle.prelude.specs.Limits.{mostSheetBytes}
+use Rattle.prelude.specs.Limits.{mostWrittenBytes}
 use Rattle.logic.specs.Sheet.{Sheet}
 use Rattle.layout.specs.Layout.{accepted, reading}
 use Rattle.layout.specs.Encode.{encode}
@@ -19,7 +19,7 @@ fittedTo sh e = fittedSheet sh (structureOf sh e)
 pub record Kept (sh : Sheet) (e : Entry) : Type 0 where
   -- its bytes are accepted, as just this sheet, and are no more than a buffer must have
   pub reads : reading (encode (fittedTo sh e)) ≡ accepted (fittedTo sh e)
-  pub short : length (encode (fittedTo sh e)) ≤ mostSheetBytes
+  pub short : length (encode (fittedTo sh e)) ≤ mostWrittenBytes
   -- it has an answer, whose sizes, and so whose sum, are the same
   pub found : Entry
   pub answers : answer (fittedTo sh e) ≡ some found

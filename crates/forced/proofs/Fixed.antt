@@ -21,6 +21,7 @@ two =
       symbols = record { result = 0; params = [] } ∷ record { result = 0; params = [] } ∷ [];
       terms = record { symbol = 0; args = [] } ∷ record { symbol = 1; args = [] } ∷ [];
       literals = [];
+      fills = [];
       total = 1;
     }
 

@@ -1,4 +1,4 @@
--- Floors, ceilings, total and differ statements play no part: accepted sheets with the same symbols, terms and same statements are answered alike.
+-- Floors, ceilings, total, differ statements and fills play no part: accepted sheets with the same symbols, terms and same statements are answered alike.
 use Prim.Native.Nat.{ℕ}
 use mathlib.Core.Path.{_≡_, refl, ap₂, sym, _∙_}
 use mathlib.Core.Bool.{Bool, true, false, _&&_, cond}
@@ -6,12 +6,13 @@ use mathlib.Core.List.{List}
 use lib.ListN.{length, getD}
 use lib.Dec.{ltb, eqb}
 use borrow.Author.Tests.{ltb-true}
-use Rattle.logic.specs.Sheet.{Sheet, Symbol, Term, noSymbol, noTerm}
+use Rattle.logic.specs.Sheet.{Sheet, Symbol, Term, noSymbol, noTerm, withoutFills}
 use Rattle.prelude.proofs.Tests.{and-both}
 use Rattle.layout.specs.Layout.{accepted, reading}
-use Rattle.layout.proofs.Answers.{accepted-well-formed}
+use Rattle.layout.specs.Encode.{encode}
+use Rattle.layout.proofs.Answers.{accepted-well-formed, unfilled-read}
 use Rattle.congruence.specs.Forced.{SameStatements}
-use Rattle.congruence.proofs.NoPart.{group-alike}
+use Rattle.congruence.proofs.NoPart.{group-alike, without-fills}
 use Rattle.forced.specs.declared.Forcing.the-variants.{Yes, No}
 use Rattle.forced.specs.Forcing.{comparable, forcing}
 use Rattle.forced.proofs.Replies.{turned-down, decided}
@@ -40,3 +41,7 @@ module _ (sh other : Sheet) (same : SameStatements sh other) where
           ∙ ap₂ (λ x y. cond (eqb x y) Yes No) first second
           ∙ sym (decided t other d a b (sym (comparable-alike a b) ∙ h))
       go false h = turned-down s sh e a b h ∙ sym (turned-down t other d a b (sym (comparable-alike a b) ∙ h))
+
+-- THEOREM: forced passes over fills: the answer is that of the sheet without them
+pub forced-passes : (s : List ℕ) (sh : Sheet) → reading s ≡ accepted sh → (a b : ℕ) → forcing s a b ≡ forcing (encode (withoutFills sh)) a b
+forced-passes s sh q a b = answered-alike sh (withoutFills sh) (without-fills sh) s (encode (withoutFills sh)) a b q (unfilled-read s sh q)

@@ -9,9 +9,8 @@ use lib.ListN.{length}
 use borrow.Author.Tests.{ltb-true, lt-ltb, le-ltb, eq-eqb, ne-eqb}
 use Rattle.logic.specs.Sheet.{Sheet, sortAt}
 use Rattle.prelude.specs.Lists.{at}
-use Rattle.prelude.specs.Tests.{Within}
 use Rattle.prelude.proofs.Tests.{and-both}
-use Rattle.layout.specs.Layout.{Reading, accepted, refused, reading}
+use Rattle.layout.specs.Layout.{Reading, accepted, refused, reading, InSheet}
 use Rattle.layout.specs.Packed.{view}
 use Rattle.sheet.specs.Verdict.{parsing}
 use Rattle.sheet.specs.declared.Parsing.{Parsing}
@@ -31,18 +30,18 @@ unfolding forcing
 refused-reply s a b p e nonzero = rw (number-refused s p e nonzero .reads) refl
 
 -- forced refuses with the number of a refused sheet, or with 13
-pub refusal-number : (s : List ℕ) (a b n i : ℕ) → forcing s a b ≡ Refused n i → Within 1 9 n ⊎ (n ≡ 13)
+pub refusal-number : (s : List ℕ) (a b n i : ℕ) → forcing s a b ≡ Refused n i → InSheet n ⊎ (n ≡ 13)
 unfolding forcing
 refusal-number s a b n i e = by (reading s) refl e
   where
-    replied : (c t : Bool) → cond c (cond t Yes No) (Refused 13 0) ≡ Refused n i → Within 1 9 n ⊎ (n ≡ 13)
+    replied : (c t : Bool) → cond c (cond t Yes No) (Refused 13 0) ≡ Refused n i → InSheet n ⊎ (n ≡ 13)
     replied true true z = let never : _≡_ {A = ℕ} 0 1 = cc in absurd (omega arith)
     replied true false z = let never : _≡_ {A = ℕ} 0 1 = cc in absurd (omega arith)
     replied false t z = inr cc
 
-    by : (R : Reading) → reading s ≡ R → forcingOf R a b ≡ Refused n i → Within 1 9 n ⊎ (n ≡ 13)
+    by : (R : Reading) → reading s ≡ R → forcingOf R a b ≡ Refused n i → InSheet n ⊎ (n ≡ 13)
     by (accepted sh) q z = replied (comparable sh a b) (together sh a b) z
-    by (refused m j) q z = let same : m ≡ n = cc in inl (subst (Within 1 9) same (refused-number s m j q))
+    by (refused m j) q z = let same : m ≡ n = cc in inl (subst InSheet same (refused-number s m j q))
 
 -- an accepted sheet
 module _ (s : List ℕ) (sh : Sheet) (e : reading s ≡ accepted sh) (a b : ℕ) where

@@ -15,13 +15,13 @@
 extern "C" {
 #endif
 
-/* Finds the first answer to a sheet. Refused (1 to 9, 10, 11) or else the sum of the sizes; then one code per expression stands in
+/* Finds the first answer to a sheet. Refused (1 to 9, 16, 10, 11) or else the sum of the sizes; then one code per expression stands in
  * codes and the tables stand in tables, and bytes behind them are as they were. codes has at least one byte per expression, and
  * tables is as long as the tables would be with every size at its ceiling (128 and 16,392 bytes always suffice). A sheet of zero
  * bytes has no field: the sum is 0, nothing is written, and no buffer is asked for. */
 uint32_t find(const uint8_t *sheet, size_t sheet_length, uint8_t *codes, size_t codes_length, uint8_t *tables, size_t tables_length);
 
-/* Judges offered tables, which have exactly the length that their sizes say. Refused (1 to 9, 12) or else 0 where they fit the
+/* Judges offered tables, which have exactly the length that their sizes say. Refused (1 to 9, 16, 12) or else 0 where they fit the
  * sheet, 1 where a size or the sum is out of bounds, and 2 + k where statement k is the first that is not satisfied. */
 uint32_t judge(const uint8_t *sheet, size_t sheet_length, const uint8_t *tables, size_t tables_length);
 

@@ -11,8 +11,7 @@ use lib.Dec.{ltb}
 use borrow.Author.Tests.{lt-ltb, le-ltb}
 use Rattle.logic.specs.Sheet.{Sheet}
 use Rattle.prelude.specs.Limits.{mostTerms}
-use Rattle.prelude.specs.Tests.{Within}
-use Rattle.layout.specs.Layout.{Reading, accepted, refused, reading}
+use Rattle.layout.specs.Layout.{Reading, accepted, refused, reading, InSheet}
 use Rattle.layout.specs.Packed.{view}
 use Rattle.layout.proofs.Answers.{refused-number, accepted-well-formed}
 use Rattle.sheet.specs.Verdict.{parsing}
@@ -32,17 +31,17 @@ unfolding grouping
 refused-reply s e p q nonzero = rw (number-refused s p q nonzero .reads) refl
 
 -- group refuses with the number of a refused sheet, or with 13
-pub refusal-number : (s : List ℕ) (e n i : ℕ) → grouping s e ≡ Refused n i → Within 1 9 n ⊎ (n ≡ 13)
+pub refusal-number : (s : List ℕ) (e n i : ℕ) → grouping s e ≡ Refused n i → InSheet n ⊎ (n ≡ 13)
 unfolding grouping
 refusal-number s e n i h = by (reading s) refl h
   where
-    replied : (b : Bool) (k : ℕ) → cond b (Group k) (Refused 13 0) ≡ Refused n i → Within 1 9 n ⊎ (n ≡ 13)
+    replied : (b : Bool) (k : ℕ) → cond b (Group k) (Refused 13 0) ≡ Refused n i → InSheet n ⊎ (n ≡ 13)
     replied true k z = let never : _≡_ {A = ℕ} 0 1 = cc in absurd (omega arith)
     replied false k z = inr cc
 
-    by : (R : Reading) → reading s ≡ R → groupingOf R e ≡ Refused n i → Within 1 9 n ⊎ (n ≡ 13)
+    by : (R : Reading) → reading s ≡ R → groupingOf R e ≡ Refused n i → InSheet n ⊎ (n ≡ 13)
     by (accepted sh) q z = replied (ltb e (length (sh .terms))) (groupOf sh e) z
-    by (refused m j) q z = let same : m ≡ n = cc in inl (subst (Within 1 9) same (refused-number s m j q))
+    by (refused m j) q z = let same : m ≡ n = cc in inl (subst InSheet same (refused-number s m j q))
 
 -- an accepted sheet
 module _ (s : List ℕ) (sh : Sheet) (q : reading s ≡ accepted sh) (e : ℕ) where

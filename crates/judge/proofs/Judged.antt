@@ -9,10 +9,9 @@ use mathlib.Core.List.{List}
 use lib.ListN.{length}
 use Rattle.logic.specs.Sheet.{Sheet, literalAt, noLiteral}
 use Rattle.prelude.specs.Lists.{at}
-use Rattle.prelude.specs.Tests.{Within}
 use Rattle.prelude.proofs.Tests.{decided, true-not-false}
 use Rattle.logic.specs.Structure.{code, Bounded}
-use Rattle.layout.specs.Layout.{Reading, accepted, refused, reading}
+use Rattle.layout.specs.Layout.{Reading, accepted, refused, reading, InSheet}
 use Rattle.layout.proofs.Answers.{refused-number}
 use Rattle.tables.specs.declared.Judgement.{Judgement}
 use Rattle.tables.specs.declared.Judgement.the-variants.{Fits, OutOfBounds, Broken, Refused}
@@ -105,10 +104,10 @@ unfolding judgement
 judgement-says s t sh e j = rw e (judged-says sh t j)
 
 -- judge refuses with the number of a refused sheet, or with 12
-pub judgement-number : (s t : List ℕ) (n i : ℕ) → judgement s t ≡ Refused n i → Within 1 9 n ⊎ (n ≡ 12)
+pub judgement-number : (s t : List ℕ) (n i : ℕ) → judgement s t ≡ Refused n i → InSheet n ⊎ (n ≡ 12)
 unfolding judgement
 judgement-number s t n i e = by (reading s) refl e
   where
-    by : (R : Reading) → reading s ≡ R → judgedOf R t ≡ Refused n i → Within 1 9 n ⊎ (n ≡ 12)
+    by : (R : Reading) → reading s ≡ R → judgedOf R t ≡ Refused n i → InSheet n ⊎ (n ≡ 12)
     by (accepted sh) q z = inr (judged-says sh t (Refused n i) .0 z .0)
-    by (refused m j) q z = let same : m ≡ n = cc in inl (subst (Within 1 9) same (refused-number s m j q))
+    by (refused m j) q z = let same : m ≡ n = cc in inl (subst InSheet same (refused-number s m j q))

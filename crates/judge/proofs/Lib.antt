@@ -2,3 +2,4 @@ pub mod Judged
 pub mod Replies
 pub mod Stretches
 pub mod Questions
+pub mod Fills

@@ -75,3 +75,6 @@ literal-room sh q g = leb-false 128 (length (sh .literals)) (good-clear sh 4 q g
 
 pub literal-room′ : (sh : Sheet) (q : Payload) → Good sh 5 q → length (sh .literals) < 128
 literal-room′ sh q g = leb-false 128 (length (sh .literals)) (good-clear sh 5 q g .room)
+
+pub fill-room : (sh : Sheet) (q : Payload) → Good sh 7 q → length (sh .fills) < 64
+fill-room sh q g = leb-false 64 (length (sh .fills)) (good-clear sh 7 q g .room)

@@ -9,20 +9,20 @@ use lib.ListN.{length, getD, take, drop, length-append, List·getD-append}
 use lib.Seq.{append-snoc, drop-append-add, take-append-seam, getD-append-seam, getD-append-add}
 use lib.Dec.{eqb}
 use borrow.Author.Tests.{le-ltb, ne-eqb, eqb-true}
-use Rattle.logic.specs.Sheet.{Sheet, Bound, Symbol, Term, Literal, symbolAt, termAt, sortAt, noTerm}
+use Rattle.logic.specs.Sheet.{Sheet, Bound, Symbol, Term, Literal, Fill, symbolAt, termAt, fillAt, sortAt, noTerm, noFill}
 use Rattle.prelude.specs.Tests.{Each, Within, sameList}
 use Rattle.prelude.specs.Lists.{at}
 use Rattle.prelude.proofs.Tests.{and-both, true-within, sameList-same, same-sameList}
 use Rattle.prelude.proofs.Lists.{map-each}
 use Rattle.logic.specs.WellFormed.{WellFormed}
 use Rattle.logic.proofs.Meaning.{few-arguments}
-use Rattle.layout.specs.Layout.{Kind, kindOf, field, name, expression, same, total, rank, reached, misplaced, wrongLength, occurs, cause, add, Reading, accepted, readFrom, reading, empty}
+use Rattle.layout.specs.Layout.{Kind, kindOf, field, name, expression, same, total, fill, rank, reached, misplaced, wrongLength, occurs, isFilled, cause, add, Reading, accepted, readFrom, reading, empty}
 use Rattle.records.specs.Record.{lengthAt, kindAt, payloadAt}
-use Rattle.layout.specs.Encode.{packet, boundBytes, symbolBytes, termBytes, literalBytes, encode}
+use Rattle.layout.specs.Encode.{packet, boundBytes, symbolBytes, termBytes, literalBytes, fillBytes, encode}
 use Rattle.layout.specs.Parts.{later, faultAt}
-use Rattle.layout.proofs.Longest.{no-sides, encode-longest}
+use Rattle.layout.proofs.Longest.{no-sides, no-fillers, encode-longest}
 use Rattle.records.proofs.Steps.{not-cut}
-use Rattle.layout.proofs.Causes.{placed-later, field-fine, name-fine, term-fine, literal-fine, total-fine}
+use Rattle.layout.proofs.Causes.{placed-later, field-fine, name-fine, term-fine, literal-fine, fill-fine, total-fine}
 use Rattle.layout.proofs.AtMostTwo.{below-all}
 use Rattle.layout.proofs.Records.{cause-later, fault-whole, from-end, from-good}
 use Rattle.layout.proofs.Pack.{no-entries}
@@ -135,6 +135,12 @@ not-occurs t (u ∷ ts) d h =
         absurd (h 0 (omega arith) (λ i. record { symbol = p i; args = q i }))
     go false e = refl
 
+-- a symbol that is none of those that are filled is not filled
+not-isFilled : (f : ℕ) (xs : List Fill) (d : Fill) → ((k : ℕ) → k < length xs → getD xs k d .symbol ≡ f → ⊥) → isFilled f xs ≡ false
+not-isFilled f [] d h = refl
+not-isFilled f (x ∷ xs) d h =
+    ap (λ (b : Bool). b || isFilled f xs) (ne-eqb (x .symbol) f (h 0 (omega arith))) ∙ not-isFilled f xs d (λ k l. h (suc k) (omega arith))
+
 few-sized : (x : ℕ) (l : List ℕ) → length l ≤ 2 → wrongLength 2 (length (x ∷ l)) ≡ false
 few-sized x [] h = refl
 few-sized x (a ∷ []) h = refl
@@ -145,22 +151,25 @@ no-cause : (sh : Sheet) (k : ℕ) (p : List ℕ) → false ≡ misplaced sh (kin
 no-cause sh k p a b c = sym (c ∙ cause-later sh k p (sym a) b)
 
 -- a record after a sort, of a kind that is not past
-in-place : (part : Sheet) (k : Kind) → 1 ≤ rank k → Within 1 4 (reached part) → reached part ≤ rank k → false ≡ misplaced part k
+in-place : (part : Sheet) (k : Kind) → 1 ≤ rank k → Within 1 5 (reached part) → reached part ≤ rank k → false ≡ misplaced part k
 in-place part k known h order = placed-later part k (λ e. omega arith) order (λ e. omega arith) (λ e. omega arith)
 
 module _ (sh : Sheet) where
-  -- the parts that have been read when some of the sorts, symbols, terms, literals have been
+  -- the parts that have been read when some of the sorts, symbols, terms, literals, fills have been
   abbrev sortsRead : List Bound → Sheet
-  sortsRead bs = record { bounds = bs; symbols = []; terms = []; literals = []; total = 0 }
+  sortsRead bs = record { bounds = bs; symbols = []; terms = []; literals = []; fills = []; total = 0 }
 
   abbrev symbolsRead : List Symbol → Sheet
-  symbolsRead fs = record { bounds = sh .bounds; symbols = fs; terms = []; literals = []; total = 0 }
+  symbolsRead fs = record { bounds = sh .bounds; symbols = fs; terms = []; literals = []; fills = []; total = 0 }
 
   abbrev termsRead : List Term → Sheet
-  termsRead ts = record { bounds = sh .bounds; symbols = sh .symbols; terms = ts; literals = []; total = 0 }
+  termsRead ts = record { bounds = sh .bounds; symbols = sh .symbols; terms = ts; literals = []; fills = []; total = 0 }
 
   abbrev literalsRead : List Literal → Sheet
-  literalsRead ls = record { bounds = sh .bounds; symbols = sh .symbols; terms = sh .terms; literals = ls; total = 0 }
+  literalsRead ls = record { bounds = sh .bounds; symbols = sh .symbols; terms = sh .terms; literals = ls; fills = []; total = 0 }
+
+  abbrev fillsRead : List Fill → Sheet
+  fillsRead xs = record { bounds = sh .bounds; symbols = sh .symbols; terms = sh .terms; literals = sh .literals; fills = xs; total = 0 }
 
   module _ (w : WellFormed sh) (some : 1 ≤ sh .total) where
     -- how far they have come
@@ -175,6 +184,9 @@ module _ (sh : Sheet) where
 
     literals-reached : (ls : List Literal) → Within 1 4 (reached (literalsRead ls))
     literals-reached ls = either 1 4 (not (eqb (length ls) 0)) 4 _ (omega arith) (let h = terms-reached (sh .terms) in omega arith)
+
+    fills-reached : (xs : List Fill) → Within 1 5 (reached (fillsRead xs))
+    fills-reached xs = either 1 5 (not (eqb (length xs) 0)) 5 _ (omega arith) (let h = literals-reached (sh .literals) in omega arith)
 
     bound-good : (done todo : List Bound) (b : Bound) → sh .bounds ≡ done ++ (b ∷ todo) → cause (sortsRead done) 1 (b .floor ∷ b .ceiling ∷ []) ≡ 0
     bound-good done todo b e =
@@ -252,23 +264,43 @@ module _ (sh : Sheet) where
         go true = refl
         go false = refl
 
-    total-good : cause (literalsRead (sh .literals)) 6 (sh .total ∷ []) ≡ 0
+    module _ (done todo : List Fill) (x : Fill) (e : sh .fills ≡ done ++ (x ∷ todo)) where
+      unfilled : (k : ℕ) → k < length done → getD done k noFill .symbol ≡ x .symbol → ⊥
+      unfilled k h z =
+          let n = ap length e ∙ length-append done (x ∷ todo) in
+          let old = ap (λ (l : List Fill). getD l k noFill .symbol) e ∙ ap (λ (y : Fill). y .symbol) (List·getD-append done (x ∷ todo) noFill k h) in
+          let same′ = entry (λ m y. fillAt sh k .symbol ≡ y .symbol → k ≡ m) (sh .fills) _ (λ m l. w .once k m (omega arith) l) done todo x e (old ∙ z) in
+          omega arith
+
+      fill-good : cause (fillsRead done) 7 (x .symbol ∷ x .term ∷ []) ≡ 0
+      fill-good =
+          let h = fills-reached done in
+          no-cause (fillsRead done) 7 (x .symbol ∷ x .term ∷ [])
+          (in-place (fillsRead done) fill (omega arith) (omega arith) (omega arith)) refl
+          (fill-fine (fillsRead done) (x .symbol) (x .term) (room 64 (sh .fills) done todo x (w .fills) e)
+          (entry (λ k y. y .symbol < length (sh .symbols)) (sh .fills) _ (w .filled) done todo x e)
+          (entry (λ k y. y .term < length (sh .terms)) (sh .fills) _ (w .filler) done todo x e)
+          (entry (λ k y. sortAt sh (y .term) ≡ symbolAt sh (y .symbol) .result) (sh .fills) _ (w .fillSort) done todo x e)
+          (not-isFilled (x .symbol) done noFill unfilled))
+
+    total-good : cause (fillsRead (sh .fills)) 6 (sh .total ∷ []) ≡ 0
     total-good =
-        let h = literals-reached (sh .literals) in
-        no-cause (literalsRead (sh .literals)) 6 (sh .total ∷ [])
-        (in-place (literalsRead (sh .literals)) total (omega arith) (omega arith) (omega arith)) refl
-        (total-fine (literalsRead (sh .literals)) (sh .total) refl some (w .total))
+        let h = fills-reached (sh .fills) in
+        no-cause (fillsRead (sh .fills)) 6 (sh .total ∷ [])
+        (in-place (fillsRead (sh .fills)) total (omega arith) (omega arith) (omega arith)) refl
+        (total-fine (fillsRead (sh .fills)) (sh .total) refl some (w .total))
 
     -- ---- the whole sheet
     encode-reads : Reads (encode sh) 0 empty (accepted sh)
     unfolding encode
     encode-reads =
         subst (λ (x : List ℕ). Reads x 0 empty (accepted sh)) (sym apart)
-        (reads-list (λ b. 1) (λ b. b .floor ∷ b .ceiling ∷ []) sortsRead (sh .bounds) bound-good (λ done b. refl) [] (sh .bounds) refl s [] (ofSymbols ++ (ofTerms ++ (ofLiterals ++ ofTotal))) (simp append-assoc) (accepted sh)
-        (reads-list (λ f. 2) (λ f. f .result ∷ f .params) symbolsRead (sh .symbols) symbol-good (λ done f. refl) [] (sh .symbols) refl s ofSorts (ofTerms ++ (ofLiterals ++ ofTotal)) (simp append-assoc) (accepted sh)
-        (reads-list (λ t. 3) (λ t. t .symbol ∷ t .args) termsRead (sh .terms) term-good (λ done t. refl) [] (sh .terms) refl s (ofSorts ++ ofSymbols) (ofLiterals ++ ofTotal) (simp append-assoc) (accepted sh)
-        (reads-list (λ l. cond (l .equal) 4 5) (λ l. l .left ∷ l .right ∷ []) literalsRead (sh .literals) literal-good literal-grows [] (sh .literals) refl s (ofSorts ++ ofSymbols ++ ofTerms) ofTotal (simp append-assoc) (accepted sh)
-        (reads-record (ofSorts ++ ofSymbols ++ ofTerms ++ ofLiterals) 6 (sh .total ∷ []) [] (literalsRead (sh .literals)) total-good (accepted sh) last)))))
+        (reads-list (λ b. 1) (λ b. b .floor ∷ b .ceiling ∷ []) sortsRead (sh .bounds) bound-good (λ done b. refl) [] (sh .bounds) refl s [] (ofSymbols ++ (ofTerms ++ (ofLiterals ++ (ofFills ++ ofTotal)))) (simp append-assoc) (accepted sh)
+        (reads-list (λ f. 2) (λ f. f .result ∷ f .params) symbolsRead (sh .symbols) symbol-good (λ done f. refl) [] (sh .symbols) refl s ofSorts (ofTerms ++ (ofLiterals ++ (ofFills ++ ofTotal))) (simp append-assoc) (accepted sh)
+        (reads-list (λ t. 3) (λ t. t .symbol ∷ t .args) termsRead (sh .terms) term-good (λ done t. refl) [] (sh .terms) refl s (ofSorts ++ ofSymbols) (ofLiterals ++ (ofFills ++ ofTotal)) (simp append-assoc) (accepted sh)
+        (reads-list (λ l. cond (l .equal) 4 5) (λ l. l .left ∷ l .right ∷ []) literalsRead (sh .literals) literal-good literal-grows [] (sh .literals) refl s (ofSorts ++ ofSymbols ++ ofTerms) (ofFills ++ ofTotal) (simp append-assoc) (accepted sh)
+        (reads-list (λ x. 7) (λ x. x .symbol ∷ x .term ∷ []) fillsRead (sh .fills) fill-good (λ done x. refl) [] (sh .fills) refl s (ofSorts ++ ofSymbols ++ ofTerms ++ ofLiterals) ofTotal (simp append-assoc) (accepted sh)
+        (reads-record (ofSorts ++ ofSymbols ++ ofTerms ++ ofLiterals ++ ofFills) 6 (sh .total ∷ []) [] (fillsRead (sh .fills)) total-good (accepted sh) last))))))
       where
         ofSorts : List ℕ
         ofSorts = flatMap boundBytes (sh .bounds)
@@ -282,11 +314,14 @@ module _ (sh : Sheet) where
         ofLiterals : List ℕ
         ofLiterals = flatMap literalBytes (sh .literals)
 
+        ofFills : List ℕ
+        ofFills = flatMap fillBytes (sh .fills)
+
         ofTotal : List ℕ
         ofTotal = packet 6 (sh .total ∷ [])
 
         s : List ℕ
-        s = ofSorts ++ ofSymbols ++ ofTerms ++ ofLiterals ++ ofTotal
+        s = ofSorts ++ ofSymbols ++ ofTerms ++ ofLiterals ++ ofFills ++ ofTotal
 
         apart : encode sh ≡ s
         apart = rw (total-bytes (sh .total) some)
@@ -294,7 +329,7 @@ module _ (sh : Sheet) where
         last : Reads s (length s) sh (accepted sh)
         last n h = from-end n s (length s) sh (omega arith) ∙ rw (ne-eqb (sh .total) 0 (λ e. omega arith))
 
--- a well-formed sheet without a total is the empty one: without a sort there is no symbol, so no term, so no literal
+-- a well-formed sheet without a total is the empty one: without a sort there is no symbol, so no term, so neither literal nor fill
 pub without-total : (sh : Sheet) → WellFormed sh → sh .total ≡ 0 → sh ≡ empty
 without-total sh w e =
     λ i.
@@ -303,6 +338,7 @@ without-total sh w e =
       symbols = no-entries (sh .symbols) symbols i;
       terms = no-entries (sh .terms) terms i;
       literals = no-entries (sh .literals) (no-sides sh w terms) i;
+      fills = no-entries (sh .fills) (no-fillers sh w terms) i;
       total = e i;
     }
   where
@@ -329,4 +365,5 @@ encode-read sh w = go (sh .total) refl
     go zero e = subst (λ (x : Sheet). reading (encode x) ≡ accepted x) (sym (without-total sh w e)) (ap reading encode-empty ∙ nothing-read)
     go (suc n) e =
         let short = encode-longest sh w in
+        let few = w .fills in
         rw (le-ltb 4096 (length (encode sh)) (omega arith)) (encode-reads sh w (omega arith) (length (encode sh)) (omega arith))

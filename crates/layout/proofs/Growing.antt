@@ -8,13 +8,13 @@ use lib.ListN.{length, getD, length-append, List·getD-append}
 use lib.Seq.{getD-append-seam}
 use lib.Dec.{ltb, eqb}
 use borrow.Author.Tests.{ltb-true, ltb-false, leb-false, eqb-true, not-false, eq-eqb}
-use Rattle.logic.specs.Sheet.{Sheet, Bound, Symbol, Term, Literal, symbolAt, termAt, sortAt, noSymbol, noTerm, noLiteral}
+use Rattle.logic.specs.Sheet.{Sheet, Bound, Symbol, Term, Literal, Fill, symbolAt, termAt, fillAt, sortAt, noSymbol, noTerm, noLiteral, noFill}
 use Rattle.prelude.specs.Tests.{Each, Within, all, within, sameList}
 use Rattle.prelude.proofs.Tests.{and-both, or-both, within-true, sameList-same, same-sameList}
 use Rattle.prelude.proofs.Lists.{map-each}
-use Rattle.layout.specs.Layout.{Kind, kindOf, field, name, expression, same, differ, total, rank, reached, misplaced, wrongLength, shortest, longest, occurs, cause, add, addBound, addSymbol, addTerm, addLiteral, withTotal, empty}
+use Rattle.layout.specs.Layout.{Kind, kindOf, field, name, expression, same, differ, total, fill, rank, reached, misplaced, wrongLength, shortest, longest, occurs, isFilled, cause, add, addBound, addSymbol, addTerm, addLiteral, addFill, withTotal, empty}
 use Rattle.layout.specs.Parts.{SoFar, later}
-use Rattle.layout.proofs.Causes.{Placed, placed, Clear, clear, no-literals, no-terms, no-symbols}
+use Rattle.layout.proofs.Causes.{Placed, placed, Clear, clear, no-fills, no-literals, no-terms, no-symbols}
 use Rattle.layout.proofs.AtMostTwo.{all-below, each-weaken}
 
 -- what holds of each entry of a list, and of one more at its end
@@ -38,6 +38,12 @@ not-there t (u ∷ ts) d e zero h z =
     true≢false (sym (rw (z, eq-eqb (t .symbol) (t .symbol) refl, same-sameList (t .args))) ∙ f)
 not-there t (u ∷ ts) d e (suc i) h z =
     not-there t ts d (or-both (eqb (u .symbol) (t .symbol) && sameList (u .args) (t .args)) (occurs (t .symbol) (t .args) ts) e .1) i (omega arith) z
+
+-- a symbol that is not filled is none of those that are
+not-filled : (f : ℕ) (xs : List Fill) (d : Fill) → isFilled f xs ≡ false → (k : ℕ) → k < length xs → getD xs k d .symbol ≡ f → ⊥
+not-filled f [] d e k h z = omega arith
+not-filled f (x ∷ xs) d e zero h z = true≢false (sym (eq-eqb (x .symbol) f z) ∙ or-both (eqb (x .symbol) f) (isFilled f xs) e .0)
+not-filled f (x ∷ xs) d e (suc k) h z = not-filled f xs d (or-both (eqb (x .symbol) f) (isFilled f xs) e .1) k (omega arith) z
 
 one-more : {A : Type 0} (l : List A) (a : A) → length (l ++ (a ∷ [])) ≡ length l + 1
 one-more l a = length-append l (a ∷ [])
@@ -82,6 +88,11 @@ module _ (sh : Sheet) (so : SoFar sh) where
         left = so .left;
         right = so .right;
         sides = so .sides;
+        fills = so .fills;
+        filled = so .filled;
+        filler = so .filler;
+        fillSort = so .fillSort;
+        once = so .once;
       }
 
   grow-name : (r : ℕ) (ps : List ℕ) → length ps ≤ 2 → Placed sh name → Clear sh name (r ∷ ps) → SoFar (addSymbol sh (record { result = r; params = ps }))
@@ -93,6 +104,7 @@ module _ (sh : Sheet) (so : SoFar sh) where
       let n = one-more (sh .symbols) f in
       let terms = no-terms sh (omega arith) in
       let literals = no-literals sh (omega arith) in
+      let fills = no-fills sh (omega arith) in
       let room = leb-false 64 (length (sh .symbols)) (c .room) in
       record {
         stage = λ h. begun-later name p (omega arith);
@@ -113,6 +125,11 @@ module _ (sh : Sheet) (so : SoFar sh) where
         left = so .left;
         right = so .right;
         sides = λ k h. absurd (omega arith);
+        fills = so .fills;
+        filled = λ k h. absurd (omega arith);
+        filler = λ k h. absurd (omega arith);
+        fillSort = λ k h. absurd (omega arith);
+        once = so .once;
       }
 
   grow-term : (f : ℕ) (args : List ℕ) → Placed sh expression → Clear sh expression (f ∷ args) → SoFar (addTerm sh (record { symbol = f; args = args }))
@@ -125,6 +142,7 @@ module _ (sh : Sheet) (so : SoFar sh) where
       let order = p .order in
       let n = one-more (sh .terms) t in
       let literals = no-literals sh (omega arith) in
+      let fills = no-fills sh (omega arith) in
       let room = leb-false 128 (length (sh .terms)) (c .room) in
       let old-sort : (a : ℕ) → a < length (sh .terms) → sortAt (addTerm sh t) a ≡ sortAt sh a =
       λ a h. ap (λ (u : Term). symbolAt sh (u .symbol) .result) (List·getD-append (sh .terms) (t ∷ []) d a h) in
@@ -159,6 +177,11 @@ module _ (sh : Sheet) (so : SoFar sh) where
         left = λ k h. absurd (omega arith);
         right = λ k h. absurd (omega arith);
         sides = λ k h. absurd (omega arith);
+        fills = so .fills;
+        filled = λ k h. absurd (omega arith);
+        filler = λ k h. absurd (omega arith);
+        fillSort = λ k h. absurd (omega arith);
+        once = so .once;
       }
 
   grow-literal : (b : Bool) (x y : ℕ) → Placed sh same → Clear sh same (x ∷ y ∷ []) → SoFar (addLiteral sh (record { equal = b; left = x; right = y }))
@@ -193,6 +216,11 @@ module _ (sh : Sheet) (so : SoFar sh) where
         sides =
             more (λ k e. sortAt sh (e .left) ≡ sortAt sh (e .right)) (sh .literals) l d (so .sides)
             (eqb-true (sortAt sh x) (sortAt sh y) (not-false (eqb (sortAt sh x) (sortAt sh y)) (c .sorts)));
+        fills = so .fills;
+        filled = so .filled;
+        filler = so .filler;
+        fillSort = so .fillSort;
+        once = so .once;
       }
 
   grow-total : (x : ℕ) → Placed sh total → Clear sh total (x ∷ []) → SoFar (withTotal sh x)
@@ -217,12 +245,59 @@ module _ (sh : Sheet) (so : SoFar sh) where
         left = so .left;
         right = so .right;
         sides = so .sides;
+        fills = so .fills;
+        filled = so .filled;
+        filler = so .filler;
+        fillSort = so .fillSort;
+        once = so .once;
+      }
+
+  grow-fill : (f i : ℕ) → Placed sh fill → Clear sh fill (f ∷ i ∷ []) → SoFar (addFill sh (record { symbol = f; term = i }))
+  grow-fill f i p c =
+      let x : Fill = record { symbol = f; term = i } in
+      let d : Fill = noFill in
+      let range =
+      and-both (ltb f (length (sh .symbols))) (ltb i (length (sh .terms)))
+      (not-false (ltb f (length (sh .symbols)) && ltb i (length (sh .terms))) (c .range)) in
+      let n = one-more (sh .fills) x in
+      let room = leb-false 64 (length (sh .fills)) (c .room) in
+      record {
+        stage = λ h. begun-later fill p (omega arith);
+        sorts = so .sorts;
+        symbols = so .symbols;
+        terms = so .terms;
+        literals = so .literals;
+        total = so .total;
+        floor = so .floor;
+        ceiling = so .ceiling;
+        result = so .result;
+        params = so .params;
+        arity = so .arity;
+        symbol = so .symbol;
+        args = so .args;
+        argSorts = so .argSorts;
+        distinct = so .distinct;
+        left = so .left;
+        right = so .right;
+        sides = so .sides;
+        fills = omega arith;
+        filled = more (λ k y. y .symbol < length (sh .symbols)) (sh .fills) x d (so .filled) (ltb-true f (length (sh .symbols)) (range .0));
+        filler = more (λ k y. y .term < length (sh .terms)) (sh .fills) x d (so .filler) (ltb-true i (length (sh .terms)) (range .1));
+        fillSort =
+            more (λ k y. sortAt sh (y .term) ≡ symbolAt sh (y .symbol) .result) (sh .fills) x d (so .fillSort)
+            (eqb-true (sortAt sh i) (symbolAt sh f .result) (not-false (eqb (sortAt sh i) (symbolAt sh f .result)) (c .sorts)));
+        once =
+            λ k m h h′.
+            more (λ k y. (m : ℕ) → m < length (sh .fills ++ (x ∷ [])) → y .symbol ≡ getD (sh .fills ++ (x ∷ [])) m d .symbol → k ≡ m) (sh .fills) x d
+            (λ k h. more (λ m y. fillAt sh k .symbol ≡ y .symbol → k ≡ m) (sh .fills) x d (λ m h′ e. so .once k m h h′ e) (λ e. absurd (not-filled f (sh .fills) d (c .once) k h e)))
+            (more (λ m y. f ≡ y .symbol → length (sh .fills) ≡ m) (sh .fills) x d (λ m h′ e. absurd (not-filled f (sh .fills) d (c .once) m h′ (sym e))) (λ e. refl))
+            k h m h′;
       }
 
 pub total-least : (sh : Sheet) (x : ℕ) → Clear sh total (x ∷ []) → 1 ≤ x
 total-least sh x c = within-true 1 128 x (and-both (within 1 128 x) true (not-false (within 1 128 x && true) (c .range)) .0) .0
 
--- none of the causes 3 to 8 applies
+-- none of the causes 3 to 8 and 16 applies
 pub record Fine (sh : Sheet) (k : ℕ) (p : List ℕ) : Type 0 where
   pub placed : Placed sh (kindOf k)
   pub least : shortest k ≤ length p
@@ -268,11 +343,12 @@ grown sh so k p e = go k p (fine sh k p e)
         as-same h = record { known = h .known; order = h .order; first = h .first; open′ = h .open′ }
 
         as-same-clear : (x y : ℕ) → Clear sh differ (x ∷ y ∷ []) → Clear sh same (x ∷ y ∷ [])
-        as-same-clear x y h = record { room = h .room; range = h .range; sorts = h .sorts; fresh = h .fresh }
+        as-same-clear x y h = record { room = h .room; range = h .range; sorts = h .sorts; fresh = h .fresh; once = h .once }
     go (suc (suc (suc (suc (suc (suc zero)))))) [] f = let h = f .least in absurd (omega arith)
     go (suc (suc (suc (suc (suc (suc zero)))))) (x ∷ []) f = grow-total sh so x (f .placed) (f .clear)
     go (suc (suc (suc (suc (suc (suc zero)))))) (x ∷ y ∷ p) f = let h = f .most in absurd (omega arith)
-    go (suc (suc (suc (suc (suc (suc (suc n))))))) p f = absurd (f .placed .known refl)
+    go (suc (suc (suc (suc (suc (suc (suc zero))))))) p f = two 7 refl refl p f (λ p. SoFar (add sh fill p)) (λ x y c. grow-fill sh so x y (f .placed) c)
+    go (suc (suc (suc (suc (suc (suc (suc (suc n)))))))) p f = absurd (f .placed .known refl)
 
 -- before the first record
 pub empty-sofar : SoFar empty
@@ -296,4 +372,9 @@ empty-sofar =
       left = λ i h. absurd (omega arith);
       right = λ i h. absurd (omega arith);
       sides = λ i h. absurd (omega arith);
+      fills = omega arith;
+      filled = λ k h. absurd (omega arith);
+      filler = λ k h. absurd (omega arith);
+      fillSort = λ k h. absurd (omega arith);
+      once = λ k m h h′ e. absurd (omega arith);
     }

@@ -1,15 +1,16 @@
--- How long the encoding of a well-formed sheet can be: at most 2,161 bytes. Crate longest_sheet has one of that length.
+-- How long the encoding of a well-formed sheet can be: at most 2,161 bytes and 6 for each fill, so at most 2,545. Crate longest_sheet has one of
+-- that length.
 use Prim.Native.Nat.{ℕ, zero, suc, _+_, _*_, _≤_, _<_}
 use native.Mathlib.Nat.{mul-suc}
 use native.Mathlib.Omega.{arith}
 use mathlib.Core.Path.{_≡_, refl, ap, sym, _∙_}
 use mathlib.Core.List.{List, [], _∷_, map, flatMap}
 use lib.ListN.{length, getD, length-append}
-use Rattle.logic.specs.Sheet.{Sheet, termAt, sortAt, noBound, noSymbol, noTerm, noLiteral}
+use Rattle.logic.specs.Sheet.{Sheet, termAt, sortAt, noBound, noSymbol, noTerm, noLiteral, noFill}
 use Rattle.prelude.specs.Tests.{Each}
 use Rattle.logic.specs.WellFormed.{WellFormed}
 use Rattle.logic.proofs.Meaning.{few-arguments}
-use Rattle.layout.specs.Encode.{boundBytes, symbolBytes, termBytes, literalBytes, totalBytes, encode}
+use Rattle.layout.specs.Encode.{boundBytes, symbolBytes, termBytes, literalBytes, fillBytes, totalBytes, encode}
 
 -- records of at most n bytes each; one of them of two bytes less
 module _ {A : Type 0} (n : ℕ) (f : A → List ℕ) (d : A) where
@@ -34,7 +35,7 @@ module _ {A : Type 0} (n : ℕ) (f : A → List ℕ) (d : A) where
 
 encode-length : (sh : Sheet)
     → length (encode sh)
-    ≡ length (flatMap boundBytes (sh .bounds)) + length (flatMap symbolBytes (sh .symbols)) + length (flatMap termBytes (sh .terms)) + length (flatMap literalBytes (sh .literals)) + length (totalBytes (sh .total))
+    ≡ length (flatMap boundBytes (sh .bounds)) + length (flatMap symbolBytes (sh .symbols)) + length (flatMap termBytes (sh .terms)) + length (flatMap literalBytes (sh .literals)) + length (flatMap fillBytes (sh .fills)) + length (totalBytes (sh .total))
 unfolding encode
 encode-length sh = simp length-append
 
@@ -51,8 +52,12 @@ module _ (sh : Sheet) (w : WellFormed sh) where
   pub no-sides : length (sh .terms) ≡ 0 → length (sh .literals) ≡ 0
   no-sides e = let none : 1 ≤ length (sh .literals) → ⊥ = λ h. let z = w .left 0 h in omega arith in omega arith
 
+  -- and no fill
+  pub no-fillers : length (sh .terms) ≡ 0 → length (sh .fills) ≡ 0
+  no-fillers e = let none : 1 ≤ length (sh .fills) → ⊥ = λ h. let z = w .filler 0 h in omega arith in omega arith
+
   -- neither the first term nor its symbol takes an argument, so two bytes are missing twice
-  pub encode-longest : length (encode sh) ≤ 2161
+  pub encode-longest : length (encode sh) ≤ 2161 + 6 * length (sh .fills)
   encode-longest = go (length (sh .terms)) refl
     where
       short-symbols : (f : ℕ) → f < length (sh .symbols) → length (symbolBytes (getD (sh .symbols) f noSymbol)) ≤ 7
@@ -67,16 +72,19 @@ module _ (sh : Sheet) (w : WellFormed sh) where
       literals : length (flatMap literalBytes (sh .literals)) ≤ 6 * length (sh .literals)
       literals = flat-most 6 literalBytes noLiteral (sh .literals) (λ k h. omega arith)
 
+      fills : length (flatMap fillBytes (sh .fills)) ≤ 6 * length (sh .fills)
+      fills = flat-most 6 fillBytes noFill (sh .fills) (λ k h. omega arith)
+
       closing : (n : ℕ) → length (totalBytes n) ≤ 5
       closing zero = omega arith
       closing (suc n) = omega arith
 
-      go : (n : ℕ) → length (sh .terms) ≡ n → length (encode sh) ≤ 2161
+      go : (n : ℕ) → length (sh .terms) ≡ n → length (encode sh) ≤ 2161 + 6 * length (sh .fills)
       go zero e =
           let a = flat-most 7 symbolBytes noSymbol (sh .symbols) short-symbols in
           let b = flat-most 7 termBytes noTerm (sh .terms) short-terms in
           let c = no-sides e in
-          omega (arith, bounds, literals, closing (sh .total), encode-length sh)
+          omega (arith, bounds, literals, fills, closing (sh .total), encode-length sh)
       go (suc n) e =
           let bare = first-bare (omega arith) in
           let params = sym (w .argSorts 0 (omega arith)) ∙ ap (map (sortAt sh)) bare in
@@ -84,4 +92,4 @@ module _ (sh : Sheet) (w : WellFormed sh) where
           let q = ap length bare in
           let a = flat-less 7 symbolBytes noSymbol (sh .symbols) short-symbols (termAt sh 0 .symbol) (w .symbol 0 (omega arith)) (omega arith) in
           let b = flat-less 7 termBytes noTerm (sh .terms) short-terms 0 (omega arith) (omega arith) in
-          omega (arith, bounds, literals, closing (sh .total), encode-length sh)
+          omega (arith, bounds, literals, fills, closing (sh .total), encode-length sh)

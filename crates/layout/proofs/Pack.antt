@@ -5,8 +5,8 @@ use mathlib.Core.Path.{_≡_, refl, ap, sym, _∙_}
 use mathlib.Core.List.{List, [], _∷_, _++_, map, map-append, append-assoc}
 use lib.ListN.{length, getD, set, replicate, length-append, length-map}
 use lib.Seq.{set-append-seam}
-use Rattle.logic.specs.Sheet.{Sheet, Bound, Symbol, Term, Literal, symbolAt, termAt, sortAt}
-use Rattle.layout.specs.Layout.{addBound, addSymbol, addTerm, addLiteral, withTotal}
+use Rattle.logic.specs.Sheet.{Sheet, Bound, Symbol, Term, Literal, Fill, symbolAt, termAt, fillAt, sortAt}
+use Rattle.layout.specs.Layout.{addBound, addSymbol, addTerm, addLiteral, addFill, withTotal}
 use Rattle.layout.specs.Packed.{pad, first, second, bit, packed}
 use Rattle.layout.specs.declared.Parsed.{Parsed}
 use Rattle.layout.proofs.View.{at-pad-map, packed-views}
@@ -54,6 +54,9 @@ moreBound p b =
       equal = p .equal;
       left = p .left;
       right = p .right;
+      fills = p .fills;
+      filled = p .filled;
+      filler = p .filler;
       total = p .total;
     }
 
@@ -81,6 +84,9 @@ moreSymbol p r a b =
       equal = p .equal;
       left = p .left;
       right = p .right;
+      fills = p .fills;
+      filled = p .filled;
+      filler = p .filler;
       total = p .total;
     }
 
@@ -121,6 +127,9 @@ moreTerm p f a b s =
       equal = p .equal;
       left = p .left;
       right = p .right;
+      fills = p .fills;
+      filled = p .filled;
+      filler = p .filler;
       total = p .total;
     }
 
@@ -155,6 +164,9 @@ moreLiteral p e l r =
       equal = set (p .equal) (p .literals) e;
       left = set (p .left) (p .literals) l;
       right = set (p .right) (p .literals) r;
+      fills = p .fills;
+      filled = p .filled;
+      filler = p .filler;
       total = p .total;
     }
 
@@ -168,6 +180,36 @@ literal-packed sh l h =
       pad-more 128 (λ (l : Literal). l .left) (sh .literals) l h,
       pad-more 128 (λ (l : Literal). l .right) (sh .literals) l h,
     )
+
+abbrev pub moreFill : Parsed → ℕ → ℕ → Parsed
+moreFill p f i =
+    record {
+      sorts = p .sorts;
+      floor = p .floor;
+      ceiling = p .ceiling;
+      symbols = p .symbols;
+      result = p .result;
+      param0 = p .param0;
+      param1 = p .param1;
+      terms = p .terms;
+      symbol = p .symbol;
+      arg0 = p .arg0;
+      arg1 = p .arg1;
+      sort = p .sort;
+      literals = p .literals;
+      equal = p .equal;
+      left = p .left;
+      right = p .right;
+      fills = p .fills + 1;
+      filled = set (p .filled) (p .fills) f;
+      filler = set (p .filler) (p .fills) i;
+      total = p .total;
+    }
+
+pub fill-packed : (sh : Sheet) (x : Fill) → length (sh .fills) < 64 → moreFill (packed sh) (x .symbol) (x .term) ≡ packed (addFill sh x)
+unfolding packed
+fill-packed sh x h =
+    cc (count-more (sh .fills) x, pad-more 64 (λ (x : Fill). x .symbol) (sh .fills) x h, pad-more 64 (λ (x : Fill). x .term) (sh .fills) x h)
 
 abbrev pub moreTotal : Parsed → ℕ → Parsed
 moreTotal p n =
@@ -188,6 +230,9 @@ moreTotal p n =
       equal = p .equal;
       left = p .left;
       right = p .right;
+      fills = p .fills;
+      filled = p .filled;
+      filler = p .filler;
       total = n;
     }
 
@@ -201,6 +246,7 @@ pub record Contents (p : Parsed) (sh : Sheet) : Type 0 where
   pub symbols : p .symbols ≡ length (sh .symbols)
   pub terms : p .terms ≡ length (sh .terms)
   pub literals : p .literals ≡ length (sh .literals)
+  pub fills : p .fills ≡ length (sh .fills)
   pub total : p .total ≡ sh .total
   pub result : (f : ℕ) → f < length (sh .symbols) → getD (p .result) f 0 ≡ symbolAt sh f .result
   pub param0 : (f : ℕ) → f < length (sh .symbols) → getD (p .param0) f 0 ≡ first (symbolAt sh f .params)
@@ -209,6 +255,8 @@ pub record Contents (p : Parsed) (sh : Sheet) : Type 0 where
   pub arg0 : (i : ℕ) → i < length (sh .terms) → getD (p .arg0) i 0 ≡ first (termAt sh i .args)
   pub arg1 : (i : ℕ) → i < length (sh .terms) → getD (p .arg1) i 0 ≡ second (termAt sh i .args)
   pub sort : (i : ℕ) → i < length (sh .terms) → getD (p .sort) i 0 ≡ sortAt sh i
+  pub filled : (k : ℕ) → k < length (sh .fills) → getD (p .filled) k 0 ≡ fillAt sh k .symbol
+  pub filler : (k : ℕ) → k < length (sh .fills) → getD (p .filler) k 0 ≡ fillAt sh k .term
 
 packed-contents : (sh : Sheet) → Contents (packed sh) sh
 unfolding packed
@@ -219,6 +267,7 @@ packed-contents sh =
       symbols = refl;
       terms = refl;
       literals = refl;
+      fills = refl;
       total = refl;
       result = at-pad-map 64 (λ (f : Symbol). f .result) (sh .symbols) _;
       param0 = at-pad-map 64 (λ (f : Symbol). first (f .params)) (sh .symbols) _;
@@ -227,6 +276,8 @@ packed-contents sh =
       arg0 = v .arg0;
       arg1 = v .arg1;
       sort = v .sort;
+      filled = at-pad-map 64 (λ (x : Fill). x .symbol) (sh .fills) _;
+      filler = at-pad-map 64 (λ (x : Fill). x .term) (sh .fills) _;
     }
 
 pub contents : (p : Parsed) (sh : Sheet) → p ≡ packed sh → Contents p sh

@@ -33,13 +33,13 @@ unfolding cause
 cause-later sh k p a b = rw (a, b)
 
 -- a record in its place has a kind, and one of an allowed length has one to three bytes
-pub kind-known : (sh : Sheet) (k : ℕ) → misplaced sh (kindOf k) ≡ false → (1 ≤ k) × (k ≤ 6)
+pub kind-known : (sh : Sheet) (k : ℕ) → misplaced sh (kindOf k) ≡ false → (1 ≤ k) × (k ≤ 7)
 kind-known sh k e = ranked k (placed sh (kindOf k) e .known)
 
-pub one-to-three : (k n : ℕ) → 1 ≤ k → k ≤ 6 → wrongLength k n ≡ false → (1 ≤ n) × (n ≤ 3)
+pub one-to-three : (k n : ℕ) → 1 ≤ k → k ≤ 7 → wrongLength k n ≡ false → (1 ≤ n) × (n ≤ 3)
 one-to-three k n a b e = go k a b (or-both (ltb n (Layout.shortest k)) (ltb (Layout.longest k) n) e)
   where
-    go : (k : ℕ) → 1 ≤ k → k ≤ 6 → (ltb n (Layout.shortest k) ≡ false) × (ltb (Layout.longest k) n ≡ false) → (1 ≤ n) × (n ≤ 3)
+    go : (k : ℕ) → 1 ≤ k → k ≤ 7 → (ltb n (Layout.shortest k) ≡ false) × (ltb (Layout.longest k) n ≡ false) → (1 ≤ n) × (n ≤ 3)
     go zero a b e = absurd (omega arith)
     go (suc zero) a b e = let x = ltb-false n 2 (e .0) in let y = ltb-false 2 n (e .1) in omega arith
     go (suc (suc zero)) a b e = let x = ltb-false n 1 (e .0) in let y = ltb-false 3 n (e .1) in omega arith
@@ -47,7 +47,8 @@ one-to-three k n a b e = go k a b (or-both (ltb n (Layout.shortest k)) (ltb (Lay
     go (suc (suc (suc (suc zero)))) a b e = let x = ltb-false n 2 (e .0) in let y = ltb-false 2 n (e .1) in omega arith
     go (suc (suc (suc (suc (suc zero))))) a b e = let x = ltb-false n 2 (e .0) in let y = ltb-false 2 n (e .1) in omega arith
     go (suc (suc (suc (suc (suc (suc zero)))))) a b e = let x = ltb-false n 1 (e .0) in let y = ltb-false 1 n (e .1) in omega arith
-    go (suc (suc (suc (suc (suc (suc (suc k))))))) a b e = absurd (omega arith)
+    go (suc (suc (suc (suc (suc (suc (suc zero))))))) a b e = let x = ltb-false n 2 (e .0) in let y = ltb-false 2 n (e .1) in omega arith
+    go (suc (suc (suc (suc (suc (suc (suc (suc k)))))))) a b e = absurd (omega arith)
 
 pub length-bytes : (q : Payload) → Short q → length (payloadBytes q) ≡ q .len
 length-bytes q h = go (q .len) (h .most)

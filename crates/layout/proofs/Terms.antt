@@ -1,15 +1,17 @@
--- The tests of an expression against the sheet so far: the sorts of its arguments, and whether it is there already.
+-- The tests of an expression and of a fill against the sheet so far: the sorts of the arguments, and whether it is there already.
 use Prim.Native.Nat.{ℕ, _+_, _≤_, _<_}
 use native.Mathlib.Omega.{arith}
+use native.Mathlib.Numerals.{add-one}
 use mathlib.Core.Path.{_≡_, ap, sym, _∙_}
 use mathlib.Core.Bool.{Bool, false, not, _&&_, _||_, cond}
 use mathlib.Core.List.{List, _∷_, map}
 use lib.ListN.{length, getD, drop, length-map, drop-of-length-le}
+use lib.Seq.{drop-cons}
 use lib.Dec.{ltb, eqb}
-use Rattle.logic.specs.Sheet.{Sheet, Term, symbolAt, termAt, sortAt, noTerm}
+use Rattle.logic.specs.Sheet.{Sheet, Term, symbolAt, termAt, sortAt, noTerm, noFill}
 use Rattle.prelude.specs.Tests.{Each}
 use Rattle.prelude.proofs.Lists.{map-each}
-use Rattle.layout.specs.Layout.{expression, illSorted, occurs}
+use Rattle.layout.specs.Layout.{expression, illSorted, occurs, isFilled}
 use Rattle.layout.specs.Packed.{first, second}
 use Rattle.layout.specs.Parts.{SoFar, PartRead}
 use Rattle.layout.specs.declared.Parsed.{Parsed}
@@ -129,3 +131,15 @@ module _ (p : Parsed) (k : PartRead p) where
   occurs-end f args i l =
       let h = contents p (k .sheet) (k .same) in
       ap (occurs f args) (drop-of-length-le (k .sheet .terms) {i = i} (omega arith))
+
+  -- cause 16 of a fill, by one fill more
+  pub filled-step : (f j : ℕ) → j < p .fills
+      → isFilled f (drop j (k .sheet .fills)) ≡ (eqb (getD (p .filled) j 0) f || isFilled f (drop (j + 1) (k .sheet .fills)))
+  filled-step f j l =
+      let h = contents p (k .sheet) (k .same) in
+      rw (drop-cons (k .sheet .fills) j noFill (omega arith), add-one j, h .filled j (omega arith))
+
+  pub filled-end : (f j : ℕ) → p .fills ≤ j → isFilled f (drop j (k .sheet .fills)) ≡ false
+  filled-end f j l =
+      let h = contents p (k .sheet) (k .same) in
+      ap (isFilled f) (drop-of-length-le (k .sheet .fills) {i = j} (omega arith))

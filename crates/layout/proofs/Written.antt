@@ -10,8 +10,8 @@ use Rattle.logic.specs.Sheet.{Sheet, Bound}
 use Rattle.prelude.specs.Lists.{at}
 use Rattle.layout.specs.Layout.{kindOf, total, shortest, longest, add, empty}
 use Rattle.records.specs.Record.{lengthAt, kindAt, payloadAt}
-use Rattle.layout.specs.Encode.{packet, boundBytes, symbolBytes, termBytes, literalBytes, totalBytes, encode}
-use Rattle.layout.proofs.Causes.{ranked, Clear, no-total, no-literals, no-terms, no-symbols}
+use Rattle.layout.specs.Encode.{packet, boundBytes, symbolBytes, termBytes, literalBytes, fillBytes, totalBytes, encode}
+use Rattle.layout.proofs.Causes.{ranked, Clear, no-total, no-fills, no-literals, no-terms, no-symbols}
 use Rattle.layout.proofs.Growing.{Fine, total-least}
 use Rattle.layout.proofs.Pack.{no-entries}
 use Rattle.layout.proofs.Payloads.{length-part}
@@ -27,7 +27,7 @@ pub encode-some : (sh : Sheet) → 1 ≤ length (sh .bounds) → length (encode 
 unfolding encode flatMap
 encode-some sh h e = go (sh .bounds) h e
   where
-    go : (l : List Bound) → 1 ≤ length l → length (flatMap boundBytes l ++ flatMap symbolBytes (sh .symbols) ++ flatMap termBytes (sh .terms) ++ flatMap literalBytes (sh .literals) ++ totalBytes (sh .total)) ≡ 0 → ⊥
+    go : (l : List Bound) → 1 ≤ length l → length (flatMap boundBytes l ++ flatMap symbolBytes (sh .symbols) ++ flatMap termBytes (sh .terms) ++ flatMap literalBytes (sh .literals) ++ flatMap fillBytes (sh .fills) ++ totalBytes (sh .total)) ≡ 0 → ⊥
     go [] h e = omega arith
     go (b ∷ l) h e = omega arith
 
@@ -62,36 +62,42 @@ encode-more sh (suc zero) p f =
     let order = f .placed .order in
     let least = f .least in
     let most = f .most in
-    rw (← spelt-two p (omega arith), no-entries (sh .symbols) (no-symbols sh (omega arith)), no-entries (sh .terms) (no-terms sh (omega arith)), no-entries (sh .literals) (no-literals sh (omega arith)), no-total sh (f .placed .open′))
+    rw (← spelt-two p (omega arith), no-entries (sh .symbols) (no-symbols sh (omega arith)), no-entries (sh .terms) (no-terms sh (omega arith)), no-entries (sh .literals) (no-literals sh (omega arith)), no-entries (sh .fills) (no-fills sh (omega arith)), no-total sh (f .placed .open′))
     (simp (append-nil, flatMap-more))
 encode-more sh (suc (suc zero)) p f =
     let order = f .placed .order in
     let least = f .least in
-    rw (← spelt-front p least, no-entries (sh .terms) (no-terms sh (omega arith)), no-entries (sh .literals) (no-literals sh (omega arith)), no-total sh (f .placed .open′))
+    rw (← spelt-front p least, no-entries (sh .terms) (no-terms sh (omega arith)), no-entries (sh .literals) (no-literals sh (omega arith)), no-entries (sh .fills) (no-fills sh (omega arith)), no-total sh (f .placed .open′))
     (simp (append-nil, flatMap-more, append-assoc))
 encode-more sh (suc (suc (suc zero))) p f =
     let order = f .placed .order in
     let least = f .least in
-    rw (← spelt-front p least, no-entries (sh .literals) (no-literals sh (omega arith)), no-total sh (f .placed .open′))
+    rw (← spelt-front p least, no-entries (sh .literals) (no-literals sh (omega arith)), no-entries (sh .fills) (no-fills sh (omega arith)), no-total sh (f .placed .open′))
     (simp (append-nil, flatMap-more, append-assoc))
 encode-more sh (suc (suc (suc (suc zero)))) p f =
+    let order = f .placed .order in
     let least = f .least in
     let most = f .most in
-    rw (← spelt-two p (omega arith), no-total sh (f .placed .open′)) (simp (append-nil, flatMap-more, append-assoc))
+    rw (← spelt-two p (omega arith), no-entries (sh .fills) (no-fills sh (omega arith)), no-total sh (f .placed .open′)) (simp (append-nil, flatMap-more, append-assoc))
 encode-more sh (suc (suc (suc (suc (suc zero))))) p f =
+    let order = f .placed .order in
     let least = f .least in
     let most = f .most in
-    rw (← spelt-two p (omega arith), no-total sh (f .placed .open′)) (simp (append-nil, flatMap-more, append-assoc))
+    rw (← spelt-two p (omega arith), no-entries (sh .fills) (no-fills sh (omega arith)), no-total sh (f .placed .open′)) (simp (append-nil, flatMap-more, append-assoc))
 encode-more sh (suc (suc (suc (suc (suc (suc zero)))))) p f =
     let least = f .least in
     let most = f .most in
     let one = spelt-one p (omega arith) in
     let some = total-least sh (at p 0) (subst (Clear sh total) (sym one) (f .clear)) in
     rw (← one, no-total sh (f .placed .open′), total-bytes (at p 0) some) (simp append-nil)
-encode-more sh (suc (suc (suc (suc (suc (suc (suc n))))))) p f = absurd (f .placed .known refl)
+encode-more sh (suc (suc (suc (suc (suc (suc (suc zero))))))) p f =
+    let least = f .least in
+    let most = f .most in
+    rw (← spelt-two p (omega arith), no-total sh (f .placed .open′)) (simp (append-nil, flatMap-more, append-assoc))
+encode-more sh (suc (suc (suc (suc (suc (suc (suc (suc n)))))))) p f = absurd (f .placed .known refl)
 
 -- the bytes of a record at a position, whose kind and length are small
-record-at : (s : List ℕ) (i : ℕ) → i + 4 + lengthAt s i ≤ length s → lengthAt s i ≤ 3 → kindAt s i ≤ 6
+record-at : (s : List ℕ) (i : ℕ) → i + 4 + lengthAt s i ≤ length s → lengthAt s i ≤ 3 → kindAt s i ≤ 7
     → take (i + 4 + lengthAt s i) s ≡ take i s ++ packet (kindAt s i) (payloadAt s i)
 record-at s i fit few known =
     take-add (i + 4) (lengthAt s i) s

@@ -4,13 +4,13 @@ use Prim.Native.Nat.{ℕ, zero, suc}
 use mathlib.Core.List.{List, [], _∷_, _++_, flatMap}
 use mathlib.Core.Bool.{cond}
 use lib.ListN.{length}
-use Rattle.logic.specs.Sheet.{Sheet, Bound, Symbol, Term, Literal}
+use Rattle.logic.specs.Sheet.{Sheet, Bound, Symbol, Term, Literal, Fill}
 
 -- a record: length and kind, of two bytes each, then the payload
 abbrev pub packet : ℕ → List ℕ → List ℕ
 packet kind payload = (length payload ∷ 0 ∷ kind ∷ 0 ∷ []) ++ payload
 
--- the record of a sort, a symbol, a term, a literal
+-- the record of a sort, a symbol, a term, a literal, a fill
 abbrev pub boundBytes : Bound → List ℕ
 boundBytes b = packet 1 (b .floor ∷ b .ceiling ∷ [])
 
@@ -22,6 +22,9 @@ termBytes t = packet 3 (t .symbol ∷ t .args)
 
 abbrev pub literalBytes : Literal → List ℕ
 literalBytes l = packet (cond (l .equal) 4 5) (l .left ∷ l .right ∷ [])
+
+abbrev pub fillBytes : Fill → List ℕ
+fillBytes x = packet 7 (x .symbol ∷ x .term ∷ [])
 
 -- the record of the total; there is none where there is no total
 abbrev pub totalBytes : ℕ → List ℕ
@@ -35,4 +38,5 @@ encode sh =
     ++ flatMap symbolBytes (sh .symbols)
     ++ flatMap termBytes (sh .terms)
     ++ flatMap literalBytes (sh .literals)
+    ++ flatMap fillBytes (sh .fills)
     ++ totalBytes (sh .total)

@@ -1,22 +1,24 @@
--- The interface: the layout of a sheet (docs/FORMAT.md, "The sheet") and the causes 1 to 9 for which one is refused ("Refusals"); cause 2
--- is `cut`, in the crate records. A sheet is accepted exactly when `reading` of its bytes is `accepted`.
+-- The interface: the layout of a sheet (docs/FORMAT.md, "The sheet") and the causes 1 to 9 and 16 for which one is refused ("Refusals"); cause
+-- 2 is `cut`, in the crate records. A sheet is accepted exactly when `reading` of its bytes is `accepted`.
 use Prim.Native.Nat.{ℕ, zero, suc, _+_}
+use mathlib.Core.Path.{_≡_}
+use mathlib.Core.Logic.{_⊎_}
 use mathlib.Core.Bool.{Bool, true, false, not, _&&_, _||_, cond}
 use mathlib.Core.List.{List, [], _∷_, _++_, map}
 use lib.ListN.{length, getD, drop}
 use lib.Dec.{leb, ltb, eqb}
-use Rattle.prelude.specs.Tests.{all, within, sameList}
-use Rattle.logic.specs.Sheet.{Sheet, Bound, Symbol, Term, Literal, symbolAt, sortAt}
+use Rattle.prelude.specs.Tests.{Within, all, within, sameList}
+use Rattle.logic.specs.Sheet.{Sheet, Bound, Symbol, Term, Literal, Fill, symbolAt, sortAt}
 use Rattle.prelude.specs.Lists.{at}
 use Rattle.records.specs.Record.{cut, lengthAt, kindAt, payloadAt}
-use Rattle.prelude.specs.Limits.{mostSorts, mostSymbols, mostTerms, mostLiterals, mostCodes, mostTotal}
+use Rattle.prelude.specs.Limits.{mostSorts, mostSymbols, mostTerms, mostLiterals, mostFills, mostCodes, mostTotal}
 
--- The record kinds. `field` to `total` are the kinds 1 to 6; every other number is `other`.
+-- The record kinds. `field` to `fill` are the kinds 1 to 7; every other number is `other`.
 pub data Kind : Type 0 where
-  other field name expression same differ total : Kind
+  other field name expression same differ total fill : Kind
 
 abbrev pub kindOf : ℕ → Kind
-kindOf n = getD (other ∷ field ∷ name ∷ expression ∷ same ∷ differ ∷ total ∷ []) n other
+kindOf n = getD (other ∷ field ∷ name ∷ expression ∷ same ∷ differ ∷ total ∷ fill ∷ []) n other
 
 -- the shortest and the longest payload of each kind, by the kind's number
 abbrev pub lengths : List (List ℕ)
@@ -28,6 +30,7 @@ lengths =
     ∷ (2 ∷ 2 ∷ [])
     ∷ (2 ∷ 2 ∷ [])
     ∷ (1 ∷ 1 ∷ [])
+    ∷ (2 ∷ 2 ∷ [])
     ∷ []
 
 abbrev pub shortest : ℕ → ℕ
@@ -45,8 +48,9 @@ most expression = mostTerms
 most same = mostLiterals
 most differ = mostLiterals
 most total = 1
+most fill = mostFills
 
--- the order of the records: fields, names, expressions, statements in any mixture, the total
+-- the order of the records: fields, names, expressions, statements in any mixture, fills, the total
 abbrev pub rank : Kind → ℕ
 rank other = 0
 rank field = 1
@@ -54,16 +58,18 @@ rank name = 2
 rank expression = 3
 rank same = 4
 rank differ = 4
-rank total = 5
+rank total = 6
+rank fill = 5
 
 -- the rank of the last record read, 0 before the first
 abbrev pub reached : Sheet → ℕ
 reached sh =
-    cond (not (eqb (sh .total) 0)) 5
+    cond (not (eqb (sh .total) 0)) 6
+    (cond (not (eqb (length (sh .fills)) 0)) 5
     (cond (not (eqb (length (sh .literals)) 0)) 4
     (cond (not (eqb (length (sh .terms)) 0)) 3
     (cond (not (eqb (length (sh .symbols)) 0)) 2
-    (cond (not (eqb (length (sh .bounds)) 0)) 1 0))))
+    (cond (not (eqb (length (sh .bounds)) 0)) 1 0)))))
 
 -- how many records of a kind have been read
 abbrev pub count : Sheet → Kind → ℕ
@@ -74,14 +80,15 @@ count sh expression = length (sh .terms)
 count sh same = length (sh .literals)
 count sh differ = length (sh .literals)
 count sh total = cond (eqb (sh .total) 0) 0 1
+count sh fill = length (sh .fills)
 
--- Cause 3: the kind is not 1 to 6, or out of order, or not a field first, or after the total.
+-- Cause 3: the kind is not 1 to 7, or out of order, or not a field first, or after the total.
 abbrev pub misplaced : Sheet → Kind → Bool
 misplaced sh k =
     eqb (rank k) 0
     || ltb (rank k) (reached sh)
     || (eqb (reached sh) 0 && not (eqb (rank k) 1))
-    || eqb (reached sh) 5
+    || eqb (reached sh) 6
 
 -- Cause 4: the length is not allowed for the kind.
 abbrev pub wrongLength : ℕ → ℕ → Bool
@@ -100,8 +107,10 @@ outOfRange sh expression p = not (ltb (at p 0) (length (sh .symbols)) && all (λ
 outOfRange sh same p = not (all (λ a. ltb a (length (sh .terms))) p)
 outOfRange sh differ p = not (all (λ a. ltb a (length (sh .terms))) p)
 outOfRange sh total p = not (all (within 1 mostTotal) p)
+outOfRange sh fill p = not (ltb (at p 0) (length (sh .symbols)) && ltb (at p 1) (length (sh .terms)))
 
--- Cause 7: the argument count or fields are wrong, or the two sides lie in different fields.
+-- Cause 7: the argument count or fields are wrong, or the two sides lie in different fields, or a fill's expression is not of its name's result
+-- field.
 abbrev pub illSorted : Sheet → Kind → List ℕ → Bool
 illSorted sh other p = false
 illSorted sh field p = false
@@ -110,6 +119,7 @@ illSorted sh expression p = not (sameList (map (sortAt sh) (drop 1 p)) (symbolAt
 illSorted sh same p = not (eqb (sortAt sh (at p 0)) (sortAt sh (at p 1)))
 illSorted sh differ p = not (eqb (sortAt sh (at p 0)) (sortAt sh (at p 1)))
 illSorted sh total p = false
+illSorted sh fill p = not (eqb (sortAt sh (at p 1)) (symbolAt sh (at p 0) .result))
 
 -- one of the terms has this symbol and these arguments
 abbrev pub occurs : ℕ → List ℕ → List Term → Bool
@@ -125,8 +135,25 @@ repeated sh expression p = occurs (at p 0) (drop 1 p) (sh .terms)
 repeated sh same p = false
 repeated sh differ p = false
 repeated sh total p = false
+repeated sh fill p = false
 
--- the lowest number of the causes 3 to 8 that apply to a whole record of kind number k and payload p after the sheet so far; 0
+-- one of the fills is of this symbol
+abbrev pub isFilled : ℕ → List Fill → Bool
+isFilled f [] = false
+isFilled f (x ∷ xs) = eqb (x .symbol) f || isFilled f xs
+
+-- Cause 16: a fill of the same name as an earlier one.
+abbrev pub refilled : Sheet → Kind → List ℕ → Bool
+refilled sh other p = false
+refilled sh field p = false
+refilled sh name p = false
+refilled sh expression p = false
+refilled sh same p = false
+refilled sh differ p = false
+refilled sh total p = false
+refilled sh fill p = isFilled (at p 0) (sh .fills)
+
+-- the lowest number of the causes 3 to 8 and 16 that apply to a whole record of kind number k and payload p after the sheet so far; 0
 -- where none does
 unfoldable pub cause : Sheet → ℕ → List ℕ → ℕ
 cause sh k p =
@@ -136,28 +163,33 @@ cause sh k p =
     (cond (outOfRange sh (kindOf k) p) 6
     (cond (illSorted sh (kindOf k) p) 7
     (cond (repeated sh (kindOf k) p) 8
-    0)))))
+    (cond (refilled sh (kindOf k) p) 16
+    0))))))
 
 -- the sheet with one record more
 abbrev pub addBound : Sheet → Bound → Sheet
 addBound sh b =
-    record { bounds = sh .bounds ++ (b ∷ []); symbols = sh .symbols; terms = sh .terms; literals = sh .literals; total = sh .total }
+    record { bounds = sh .bounds ++ (b ∷ []); symbols = sh .symbols; terms = sh .terms; literals = sh .literals; fills = sh .fills; total = sh .total }
 
 abbrev pub addSymbol : Sheet → Symbol → Sheet
 addSymbol sh f =
-    record { bounds = sh .bounds; symbols = sh .symbols ++ (f ∷ []); terms = sh .terms; literals = sh .literals; total = sh .total }
+    record { bounds = sh .bounds; symbols = sh .symbols ++ (f ∷ []); terms = sh .terms; literals = sh .literals; fills = sh .fills; total = sh .total }
 
 abbrev pub addTerm : Sheet → Term → Sheet
 addTerm sh t =
-    record { bounds = sh .bounds; symbols = sh .symbols; terms = sh .terms ++ (t ∷ []); literals = sh .literals; total = sh .total }
+    record { bounds = sh .bounds; symbols = sh .symbols; terms = sh .terms ++ (t ∷ []); literals = sh .literals; fills = sh .fills; total = sh .total }
 
 abbrev pub addLiteral : Sheet → Literal → Sheet
 addLiteral sh l =
-    record { bounds = sh .bounds; symbols = sh .symbols; terms = sh .terms; literals = sh .literals ++ (l ∷ []); total = sh .total }
+    record { bounds = sh .bounds; symbols = sh .symbols; terms = sh .terms; literals = sh .literals ++ (l ∷ []); fills = sh .fills; total = sh .total }
+
+abbrev pub addFill : Sheet → Fill → Sheet
+addFill sh x =
+    record { bounds = sh .bounds; symbols = sh .symbols; terms = sh .terms; literals = sh .literals; fills = sh .fills ++ (x ∷ []); total = sh .total }
 
 abbrev pub withTotal : Sheet → ℕ → Sheet
 withTotal sh n =
-    record { bounds = sh .bounds; symbols = sh .symbols; terms = sh .terms; literals = sh .literals; total = n }
+    record { bounds = sh .bounds; symbols = sh .symbols; terms = sh .terms; literals = sh .literals; fills = sh .fills; total = n }
 
 abbrev pub add : Sheet → Kind → List ℕ → Sheet
 add sh other p = sh
@@ -167,6 +199,7 @@ add sh expression p = addTerm sh (record { symbol = at p 0; args = drop 1 p })
 add sh same p = addLiteral sh (record { equal = true; left = at p 0; right = at p 1 })
 add sh differ p = addLiteral sh (record { equal = false; left = at p 0; right = at p 1 })
 add sh total p = withTotal sh (at p 0)
+add sh fill p = addFill sh (record { symbol = at p 0; term = at p 1 })
 
 -- what reading a sheet gives: the sheet, or a refusal's number and place
 pub data Reading : Type 0 where
@@ -198,7 +231,7 @@ readFrom (suc n) s i sh =
 
 -- the sheet of zero bytes, and the sheet before the first record
 abbrev pub empty : Sheet
-empty = record { bounds = []; symbols = []; terms = []; literals = []; total = 0 }
+empty = record { bounds = []; symbols = []; terms = []; literals = []; fills = []; total = 0 }
 
 -- the most bytes of a sheet
 abbrev pub mostBytes : ℕ
@@ -207,3 +240,7 @@ mostBytes = 4096
 -- Cause 1: the sheet has more bytes than the most.
 unfoldable pub reading : List ℕ → Reading
 reading s = cond (ltb mostBytes (length s)) (refused 1 0) (readFrom (length s) s 0 empty)
+
+-- the numbers of the causes that lie in a sheet's own bytes
+abbrev pub InSheet : ℕ → Type 0
+InSheet n = Within 1 9 n ⊎ (n ≡ 16)

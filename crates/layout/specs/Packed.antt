@@ -4,9 +4,9 @@ use Prim.Native.Nat.{ℕ, _-_}
 use mathlib.Core.Bool.{Bool, true, false}
 use mathlib.Core.List.{List, _++_, map}
 use lib.ListN.{length, getD, replicate}
-use Rattle.logic.specs.Sheet.{Sheet, Bound, Symbol, Term, Literal, symbolAt}
+use Rattle.logic.specs.Sheet.{Sheet, Bound, Symbol, Term, Literal, Fill, symbolAt}
 use Rattle.prelude.specs.Lists.{at}
-use Rattle.prelude.specs.Limits.{mostSorts, mostSymbols, mostTerms, mostLiterals, missing}
+use Rattle.prelude.specs.Limits.{mostSorts, mostSymbols, mostTerms, mostLiterals, mostFills, missing}
 use Rattle.logic.specs.Problem.{Problem}
 use Rattle.layout.specs.declared.Parsed.{Parsed}
 
@@ -45,6 +45,9 @@ packed sh =
       equal = pad mostLiterals (map (λ (l : Literal). bit (l .equal)) (sh .literals));
       left = pad mostLiterals (map (λ (l : Literal). l .left) (sh .literals));
       right = pad mostLiterals (map (λ (l : Literal). l .right) (sh .literals));
+      fills = length (sh .fills);
+      filled = pad mostFills (map (λ (x : Fill). x .symbol) (sh .fills));
+      filler = pad mostFills (map (λ (x : Fill). x .term) (sh .fills));
       total = sh .total;
     }
 

@@ -8,7 +8,7 @@ use lib.ListN.{length, take, drop}
 use Rattle.logic.specs.Sheet.{Sheet}
 use Rattle.logic.specs.WellFormed.{Formed}
 use Rattle.prelude.specs.Limits.{missing}
-use Rattle.layout.specs.Layout.{Kind, kindOf, reached, misplaced, wrongLength, tooMany, outOfRange, illSorted, repeated, cause}
+use Rattle.layout.specs.Layout.{Kind, kindOf, reached, misplaced, wrongLength, tooMany, outOfRange, illSorted, repeated, refilled, cause}
 use Rattle.layout.specs.Packed.{packed}
 use Rattle.records.specs.Step.{stepAt, stepCause}
 use Rattle.layout.specs.declared.Parsed.{Parsed}
@@ -40,14 +40,15 @@ pub record Short (q : Payload) : Type 0 where
   pub second : q .len < 2 → q .b1 ≡ missing
   pub third : q .len < 3 → q .b2 ≡ missing
 
--- the causes 5 to 8, where neither 3 nor 4 applies
+-- the causes 5 to 8 and 16, where neither 3 nor 4 applies
 abbrev pub later : Sheet → Kind → List ℕ → ℕ
 later sh k p =
     cond (tooMany sh k) 5
     (cond (outOfRange sh k p) 6
     (cond (illSorted sh k p) 7
     (cond (repeated sh k p) 8
-    0)))
+    (cond (refilled sh k p) 16
+    0))))
 
 -- no cause applies to a whole record of kind number k and a short payload
 pub record Good (sh : Sheet) (k : ℕ) (q : Payload) : Type 0 where
@@ -55,8 +56,8 @@ pub record Good (sh : Sheet) (k : ℕ) (q : Payload) : Type 0 where
   pub sized : wrongLength k (q .len) ≡ false
   pub none : later sh (kindOf k) (payloadBytes q) ≡ 0
 
--- the number of the cause that a step over the bytes s gives after the sheet so far: of a whole record the causes 3 to 8, 0 where none
--- applies; else the step's own
+-- the number of the cause that a step over the bytes s gives after the sheet so far: of a whole record the causes 3 to 8 and 16, 0 where
+-- none applies; else the step's own
 abbrev pub faultOf : List ℕ → Sheet → Step → ℕ
 faultOf s sh (Record kind start len) = cause sh kind (take len (drop start s))
 faultOf s sh Cut = stepCause Cut

@@ -1,6 +1,7 @@
-// The causes 3 to 8 for which a record is refused, tested against the sheet so far.
+// The causes 3 to 8 and 16 for which a record is refused, tested against the sheet so far.
 use crate::Parsed;
 use crate::Payload;
+use crate::fills::fill_fault;
 use prelude::GREATEST_SIZE;
 use prelude::GREATEST_TOTAL;
 use prelude::MISSING;
@@ -23,7 +24,16 @@ ghost use Rattle.layout.specs.Packed.{packed};
 ghost use Rattle.layout.specs.Parts.{payloadBytes, Short, PartRead, later};
 
 // The shortest and the longest payload of each kind, by the kind's number.
-const LENGTHS: [[u8; 2]; 7] = [[0, 0], [2, 2], [1, 3], [1, 3], [2, 2], [2, 2], [1, 1]];
+const LENGTHS: [[u8; 2]; 8] = [
+    [0, 0],
+    [2, 2],
+    [1, 3],
+    [1, 3],
+    [2, 2],
+    [2, 2],
+    [1, 1],
+    [2, 2],
+];
 
 // Cause 3: no such kind, out of order, not a sort first, or after the total.
 pub fn is_misplaced(p: Parsed, kind: usize) -> bool
@@ -37,7 +47,7 @@ pub fn is_misplaced(p: Parsed, kind: usize) -> bool
     if rank < reached {
         return true;
     }
-    if reached == 5 {
+    if reached == 6 {
         return true;
     }
     if reached != 0 {
@@ -48,7 +58,7 @@ pub fn is_misplaced(p: Parsed, kind: usize) -> bool
 
 // Cause 4: the length is not allowed for the kind.
 pub fn is_wrong_length(kind: usize, len: usize) -> bool
-    requires { ⌜ kind < 7 ⌝ }
+    requires { ⌜ kind < 8 ⌝ }
     ensures { λ r. ⌜ r ≡ wrongLength kind len ⌝ }
 {
     if len < wide(shortest_of(kind)) {
@@ -57,7 +67,7 @@ pub fn is_wrong_length(kind: usize, len: usize) -> bool
     wide(longest_of(kind)) < len
 }
 
-// The causes 5 to 8 of a record that is in its place and of an allowed length.
+// The causes 5 to 8 and 16 of a record that is in its place and of an allowed length.
 pub fn fault(p: Parsed, kind: usize, q: Payload) -> u8
     requires { ⌜ PartRead p ⌝ }
     requires { ⌜ Short q ⌝ }
@@ -70,6 +80,7 @@ pub fn fault(p: Parsed, kind: usize, q: Payload) -> u8
         4 => literal_fault(p, q.b0, q.b1),
         5 => literal_fault(p, q.b0, q.b1),
         6 => total_fault(q.b0),
+        7 => fill_fault(p, q.b0, q.b1),
         _ => 0,
     }
 }
@@ -84,7 +95,8 @@ fn rank_of(kind: usize) -> usize
         3 => 3,
         4 => 4,
         5 => 4,
-        6 => 5,
+        6 => 6,
+        7 => 5,
         _ => 0,
     }
 }
@@ -94,6 +106,9 @@ fn reached_by(p: Parsed) -> usize
     ensures { λ r. ⌜ ((sh : Sheet) → p ≡ packed sh → r ≡ reached sh) ⌝ }
 {
     if p.total != 0 {
+        return 6;
+    }
+    if p.fills != 0 {
         return 5;
     }
     if p.literals != 0 {
@@ -112,14 +127,14 @@ fn reached_by(p: Parsed) -> usize
 }
 
 fn shortest_of(kind: usize) -> u8
-    requires { ⌜ kind < 7 ⌝ }
+    requires { ⌜ kind < 8 ⌝ }
     ensures { λ r. ⌜ r ≡ shortest kind ⌝ }
 {
     LENGTHS[kind][0]
 }
 
 fn longest_of(kind: usize) -> u8
-    requires { ⌜ kind < 7 ⌝ }
+    requires { ⌜ kind < 8 ⌝ }
     ensures { λ r. ⌜ r ≡ longest kind ⌝ }
 {
     LENGTHS[kind][1]

@@ -6,9 +6,9 @@ ghost use mathlib.Core.Path.{_≡_};
 ghost use mathlib.Core.Bool.{Bool};
 ghost use Prim.Native.Nat.{_+_, _<_};
 ghost use lib.ListN.{length, drop};
-ghost use Rattle.prelude.specs.Limits.{mostSorts, mostSymbols, mostTerms, mostLiterals};
+ghost use Rattle.prelude.specs.Limits.{mostSorts, mostSymbols, mostTerms, mostLiterals, mostFills};
 ghost use Rattle.logic.specs.Sheet.{Sheet};
-ghost use Rattle.layout.specs.Layout.{kindOf, addBound, addSymbol, addTerm, addLiteral, withTotal, add};
+ghost use Rattle.layout.specs.Layout.{kindOf, addBound, addSymbol, addTerm, addLiteral, addFill, withTotal, add};
 ghost use Rattle.layout.specs.Packed.{packed, bit};
 ghost use Rattle.layout.specs.Parts.{payloadBytes, Short, PartRead, Good};
 
@@ -26,6 +26,7 @@ pub fn added(p: Parsed, kind: usize, q: Payload) -> Parsed
         4 => with_literal(p, 1, q.b0, q.b1),
         5 => with_literal(p, 0, q.b0, q.b1),
         6 => with_total(p, q.b0),
+        7 => with_fill(p, q.b0, q.b1),
         _ => p,
     }
 }
@@ -86,6 +87,19 @@ pub fn with_literal(p: Parsed, equal: u8, b0: u8, b1: u8) -> Parsed
     out.left[n] = b0;
     out.right[n] = b1;
     out.literals = n + 1;
+    out
+}
+
+// A fill more: the symbol and the term.
+fn with_fill(p: Parsed, b0: u8, b1: u8) -> Parsed
+    requires { ⌜ p .fills < mostFills ⌝ }
+    ensures { λ r. ⌜ ((sh : Sheet) → p ≡ packed sh → r ≡ packed (addFill sh (record { symbol = b0; term = b1 }))) ⌝ }
+{
+    let mut out = p;
+    let n = p.fills;
+    out.filled[n] = b0;
+    out.filler[n] = b1;
+    out.fills = n + 1;
     out
 }
 

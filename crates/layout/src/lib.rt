@@ -1,7 +1,9 @@
 // The layout of a sheet: the parsed sheet, and a record tested against it and added to it.
-pub mod faults; // the causes 3 to 8
+pub mod faults; // the causes 3 to 8 and 16
+mod fills; // those of a fill
 pub mod grow; // the sheet with a record more
 
+use prelude::MOST_FILLS;
 use prelude::MOST_LITERALS;
 use prelude::MOST_SORTS;
 use prelude::MOST_SYMBOLS;
@@ -32,6 +34,10 @@ pub struct Parsed {
     pub equal: [u8; MOST_LITERALS],
     pub left: [u8; MOST_LITERALS],
     pub right: [u8; MOST_LITERALS],
+    // fills: the symbol, and the term whose code its unforced cells hold
+    pub fills: usize,
+    pub filled: [u8; MOST_FILLS],
+    pub filler: [u8; MOST_FILLS],
     pub total: usize,
 }
 
@@ -64,6 +70,9 @@ pub fn nothing() -> Parsed
         equal: [0u8; MOST_LITERALS],
         left: [0u8; MOST_LITERALS],
         right: [0u8; MOST_LITERALS],
+        fills: 0,
+        filled: [0u8; MOST_FILLS],
+        filler: [0u8; MOST_FILLS],
         total: 0,
     }
 }

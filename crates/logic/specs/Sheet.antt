@@ -26,12 +26,18 @@ pub record Literal : Type 0 where
   pub left : ℕ
   pub right : ℕ
 
+-- a fill: the term whose code a symbol's table holds in its unforced cells
+pub record Fill : Type 0 where
+  pub symbol : ℕ
+  pub term : ℕ
+
 -- a whole sheet, or the part of one that has been read; the total is 0 until its record has been read
 pub record Sheet : Type 0 where
   pub bounds : List Bound
   pub symbols : List Symbol
   pub terms : List Term
   pub literals : List Literal
+  pub fills : List Fill
   pub total : ℕ
 
 -- what stands past the end of a list, which is never used of an accepted sheet
@@ -47,6 +53,9 @@ noTerm = record { symbol = 0; args = [] }
 abbrev pub noLiteral : Literal
 noLiteral = record { equal = true; left = 0; right = 0 }
 
+abbrev pub noFill : Fill
+noFill = record { symbol = 0; term = 0 }
+
 -- the entry with a number
 abbrev pub boundAt : Sheet → ℕ → Bound
 boundAt sh s = getD (sh .bounds) s noBound
@@ -60,6 +69,14 @@ termAt sh i = getD (sh .terms) i noTerm
 abbrev pub literalAt : Sheet → ℕ → Literal
 literalAt sh k = getD (sh .literals) k noLiteral
 
+abbrev pub fillAt : Sheet → ℕ → Fill
+fillAt sh k = getD (sh .fills) k noFill
+
 -- the sort of a term is the sort that its symbol gives
 abbrev pub sortAt : Sheet → ℕ → ℕ
 sortAt sh i = symbolAt sh (termAt sh i .symbol) .result
+
+-- the sheet without its fills
+abbrev pub withoutFills : Sheet → Sheet
+withoutFills sh =
+    record { bounds = sh .bounds; symbols = sh .symbols; terms = sh .terms; literals = sh .literals; fills = []; total = sh .total }

@@ -6,8 +6,8 @@ use mathlib.Core.Path.{_≡_}
 use mathlib.Core.List.{map}
 use lib.ListN.{length}
 use Rattle.prelude.specs.Tests.{Each, Within}
-use Rattle.prelude.specs.Limits.{mostSorts, mostSymbols, mostTerms, mostLiterals, mostCodes, mostTotal}
-use Rattle.logic.specs.Sheet.{Sheet, boundAt, symbolAt, termAt, literalAt, sortAt}
+use Rattle.prelude.specs.Limits.{mostSorts, mostSymbols, mostTerms, mostLiterals, mostFills, mostCodes, mostTotal}
+use Rattle.logic.specs.Sheet.{Sheet, boundAt, symbolAt, termAt, literalAt, fillAt, sortAt}
 
 -- A sheet whose records are good, whole or in part: what each record brings with it, and what holds at this stage of reading.
 pub record Formed (Stage : Sheet → Type 0) (sh : Sheet) : Type 0 where
@@ -17,6 +17,7 @@ pub record Formed (Stage : Sheet → Type 0) (sh : Sheet) : Type 0 where
   pub symbols : length (sh .symbols) ≤ mostSymbols
   pub terms : length (sh .terms) ≤ mostTerms
   pub literals : length (sh .literals) ≤ mostLiterals
+  pub fills : length (sh .fills) ≤ mostFills
   -- floors, ceilings and total are in range; a floor may be above its ceiling
   pub floor : (s : ℕ) → s < length (sh .bounds) → Within 1 mostCodes (boundAt sh s .floor)
   pub ceiling : (s : ℕ) → s < length (sh .bounds) → Within 1 mostCodes (boundAt sh s .ceiling)
@@ -34,6 +35,11 @@ pub record Formed (Stage : Sheet → Type 0) (sh : Sheet) : Type 0 where
   pub left : (k : ℕ) → k < length (sh .literals) → literalAt sh k .left < length (sh .terms)
   pub right : (k : ℕ) → k < length (sh .literals) → literalAt sh k .right < length (sh .terms)
   pub sides : (k : ℕ) → k < length (sh .literals) → sortAt sh (literalAt sh k .left) ≡ sortAt sh (literalAt sh k .right)
+  -- a fill's symbol and term are there, the term of the sort that the symbol gives; no two fills are of one symbol
+  pub filled : (k : ℕ) → k < length (sh .fills) → fillAt sh k .symbol < length (sh .symbols)
+  pub filler : (k : ℕ) → k < length (sh .fills) → fillAt sh k .term < length (sh .terms)
+  pub fillSort : (k : ℕ) → k < length (sh .fills) → sortAt sh (fillAt sh k .term) ≡ symbolAt sh (fillAt sh k .symbol) .result
+  pub once : (k m : ℕ) → k < length (sh .fills) → m < length (sh .fills) → fillAt sh k .symbol ≡ fillAt sh m .symbol → k ≡ m
 
 -- at the end of a sheet a total is there exactly where a sort is; total 0 says that there is none
 abbrev pub Ended : Sheet → Type 0

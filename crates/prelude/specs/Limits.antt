@@ -1,7 +1,7 @@
 -- The interface: the numbers of the format (docs/FORMAT.md, "The sheet"); the constants of src/lib.rt are the same.
 use Prim.Native.Nat.{ℕ}
 
--- the most sorts, symbols, terms and literals of a sheet
+-- the most sorts, symbols, terms, literals and fills of a sheet
 abbrev pub mostSorts : ℕ
 mostSorts = 8
 
@@ -14,6 +14,9 @@ mostTerms = 128
 abbrev pub mostLiterals : ℕ
 mostLiterals = 128
 
+abbrev pub mostFills : ℕ
+mostFills = 64
+
 -- the most codes of a sort, and the greatest total
 abbrev pub mostCodes : ℕ
 mostCodes = 16
@@ -21,9 +24,9 @@ mostCodes = 16
 abbrev pub mostTotal : ℕ
 mostTotal = 128
 
--- the most bytes of an accepted sheet
-abbrev pub mostSheetBytes : ℕ
-mostSheetBytes = 2161
+-- the most bytes of an accepted sheet without fills, and so of every sheet that is written
+abbrev pub mostWrittenBytes : ℕ
+mostWrittenBytes = 2161
 
 -- stands for a parameter or an argument that is not there; no sort, symbol or term has this number
 abbrev pub missing : ℕ

@@ -7,7 +7,7 @@ ghost use Rattle.prelude.specs.Limits.{mostTerms};
 
 // The numbers of the format (docs/FORMAT.md, "The sheet"); specs/Limits.antt says the same for definitions and contracts.
 
-// The most sorts, symbols, terms and literals of a sheet.
+// The most sorts, symbols, terms, literals and fills of a sheet.
 pub const MOST_SORTS: usize = 8;
 
 pub const MOST_SYMBOLS: usize = 64;
@@ -16,13 +16,15 @@ pub const MOST_TERMS: usize = 128;
 
 pub const MOST_LITERALS: usize = 128;
 
+pub const MOST_FILLS: usize = 64;
+
 // The most codes of a sort, so that a table has at most 16 rows of 16 cells; the greatest total.
 pub const MOST_CODES: usize = 16;
 
 pub const MOST_TOTAL: usize = 128;
 
-// The most bytes of an accepted sheet.
-pub const MOST_SHEET_BYTES: usize = 2161;
+// The most bytes of an accepted sheet without fills, and so of every sheet that is written.
+pub const MOST_WRITTEN_BYTES: usize = 2161;
 
 // The same as bytes, to compare bytes with: the greatest size of a sort, and the greatest total.
 pub const GREATEST_SIZE: u8 = MOST_CODES as u8;

@@ -2,3 +2,4 @@ pub mod Alone
 pub mod Refuted
 pub mod Fitted
 pub mod Walk
+pub mod Fills

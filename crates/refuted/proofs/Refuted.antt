@@ -3,22 +3,23 @@
 use Prim.Native.Nat.{ℕ, _≤_, _<_}
 use native.Mathlib.Decide.{decLt}
 use native.Mathlib.Omega.{arith}
-use mathlib.Core.Path.{_≡_, refl, ap, sym, _∙_}
+use mathlib.Core.Path.{_≡_, refl, ap, sym, _∙_, subst}
 use mathlib.Core.Logic.{inl, inr}
 use mathlib.Core.List.{List, [], _∷_, map}
 use mathlib.Core.Option.{some}
 use lib.ListN.{length}
 use lib.Dec.{lit<, lit≤}
 use lib.Seq.{getD-take}
-use Rattle.logic.specs.Sheet.{Sheet, termAt}
+use Rattle.logic.specs.Sheet.{Sheet, symbolAt, termAt, fillAt}
 use Rattle.logic.specs.WellFormed.{WellFormed}
+use Rattle.logic.specs.Structure.{InSorts}
 use Rattle.logic.proofs.Meaning.{of-one-argument}
 use Rattle.prelude.specs.Lists.{at, sumTo, fronted}
 use Rattle.prelude.proofs.Lists.{sumTo-same}
 use Rattle.layout.specs.Layout.{Reading, accepted, refused, reading, readFrom, cause}
 use Rattle.sheet.specs.Verdict.{verdict}
 use Rattle.sheet.specs.declared.Verdict.the-variants as verdicts
-use Rattle.layout.proofs.Answers.{accepted-well-formed, refused-number}
+use Rattle.layout.proofs.Answers.{accepted-well-formed, refused-not}
 use Rattle.tables.specs.Layout.{extent}
 use Rattle.tables.specs.Tests.{wellLaid, inBounds}
 use Rattle.tables.specs.declared.Judgement.{Judgement}
@@ -32,7 +33,7 @@ use Rattle.group.proofs.NoPart.{answered-alike}
 use Rattle.group.proofs.Worked as group-worked
 use Rattle.finder.specs.Find.{turnedDown, ceilings, outcome}
 use Rattle.answer.specs.Answer.{Entry, answer}
-use Rattle.answer.specs.Demand.{Answers, Hopeless, Unreached, ToItself}
+use Rattle.answer.specs.Demand.{Answers, Hopeless, Unreached, ToItself, Unfilled}
 use Rattle.answer.proofs.Rules.{answers-only, cell-of-term}
 use Rattle.finder.specs.Promise.{Delivered, codesWritten, tablesWritten}
 use Rattle.worked.specs.Worked.{Row, row1, row2, row5, row13, Shows}
@@ -43,7 +44,7 @@ use Rattle.worked.proofs.EmptySheet.{empty-sheet}
 use Rattle.finder.proofs.Outcomes.{outcome-refused, outcome-short}
 use Rattle.finder.proofs.Buffers.{exit}
 use Rattle.finder.proofs.Delivery.{accepted-promised, delivered-by}
-use Rattle.refuted.specs.WrongPrograms.{FindProgram, MeetsFind, LetThrough, ElevenForAll, NeverLooks, ElevenBeforeLooking, SameTables, NoCodeWritten, NoTableWritten, OtherSizesZero, OtherCodesZero, FoundCall, InventedSum, structureFrom, FreeCell, symbolOf, heldIn, KeepsAcross, KeepsOfTwo, Overwrites, StillZero, ReadProgram, MeetsRead, RefusesEverySheet, RefusesNoBytes, JudgeProgram, MeetsJudge, FixedJudgement, PassesTablesForNoBytes, GroupProgram, MeetsGroup, GivesItself, GivesHighest, OneRound, CountsDiffer, SixBits, HighestBit, Refuted}
+use Rattle.refuted.specs.WrongPrograms.{FindProgram, MeetsFind, LetThrough, ElevenForAll, NeverLooks, ElevenBeforeLooking, SameTables, NoCodeWritten, NoTableWritten, OtherSizesZero, OtherCodesZero, FoundCall, InventedSum, structureFrom, FreeCell, symbolOf, heldIn, KeepsAcross, KeepsOfTwo, Overwrites, StillZero, FillsReached, FilledCell, fillingOf, FillWins, FillsWithNumber, TakesSecondFill, ReadProgram, MeetsRead, RefusesEverySheet, RefusesNoBytes, SixteenBeforeSeven, JudgeProgram, MeetsJudge, FixedJudgement, PassesTablesForNoBytes, GroupProgram, MeetsGroup, GivesItself, GivesHighest, OneRound, CountsDiffer, SixBits, HighestBit, Refuted}
 use Rattle.refuted.proofs.Alone.{longest-bytes, last-alone}
 
 -- ---- the worked sheets that refute
@@ -168,7 +169,7 @@ module _ (p : FindProgram) (meets : MeetsFind p) where
         go (refused n i) q =
             let r : Refused n i ≡ Refused 11 0 = sym (turned-down n i (outcome-refused s n i (length cs) (length ts) q)) ∙ e in
             let same : n ≡ 11 = cc in
-            absurd (omega (arith, refused-number s n i q))
+            absurd (refused-not s n i 11 q (inr (omega arith)) same)
         go (accepted sh) q =
             let r = room sh q (λ d. let z : _≡_ {A = ℕ} 10 11 = cc in omega arith) in
             (record { sheet = sh; reads = q; codesFit = r .0; tablesFit = r .1 }, accepted-promised s cs ts sh q (r .0) (r .1) .refuses .0 (sym (meets s cs ts .result) ∙ e))
@@ -215,8 +216,8 @@ module _ (p : FindProgram) (meets : MeetsFind p) where
 
   -- what demand 3 says of a cell that no expression reaches
   module _ (c : FreeCell p) where
-    zero-elsewhere : (ToItself (c .call .read) (c .symbol) → ⊥) → heldIn p c ≡ 0
-    zero-elsewhere other = given (c .call) .unreached .zero (c .symbol) (c .there) other (c .args) (c .inside) (c .free)
+    zero-elsewhere : (ToItself (c .call .read) (c .symbol) → ⊥) → Unfilled (c .call .read) (c .symbol) → heldIn p c ≡ 0
+    zero-elsewhere other none = given (c .call) .unreached .zero (c .symbol) (c .there) other none (c .args) (c .inside) (c .free)
 
     own-kept : ToItself (c .call .read) (c .symbol) → heldIn p c ≡ at (c .args) 0
     own-kept itself =
@@ -227,20 +228,47 @@ module _ (p : FindProgram) (meets : MeetsFind p) where
   not-keeps-across : KeepsAcross p → ⊥
   not-keeps-across wrong =
       let c = wrong .0 in
-      wrong .5 (zero-elsewhere c (λ itself. wrong .3 (heads (wrong .1) (symbolOf p c .result) (sym (wrong .2) ∙ itself))))
+      wrong .6 (zero-elsewhere c (λ itself. wrong .4 (heads (wrong .2) (symbolOf p c .result) (sym (wrong .3) ∙ itself))) (wrong .1))
     where
       heads : (s r : ℕ) → s ∷ [] ≡ r ∷ [] → s ≡ r
       heads s r e = cc
 
   not-keeps-of-two : KeepsOfTwo p → ⊥
   not-keeps-of-two wrong =
-      wrong .3 (zero-elsewhere (wrong .0) (λ itself. let one = ap length itself in omega (arith, wrong .1)))
+      wrong .4 (zero-elsewhere (wrong .0) (λ itself. let one = ap length itself in omega (arith, wrong .2)) (wrong .1))
 
   not-overwrites : Overwrites p → ⊥
   not-overwrites wrong = wrong .5 (code-written (wrong .0) (wrong .1) (wrong .2) (wrong .3) (wrong .4))
 
   not-still-zero : StillZero p → ⊥
   not-still-zero wrong = wrong .3 (sym (own-kept (wrong .0) (wrong .1)) ∙ wrong .2)
+
+  -- what it says of one whose name has a fill
+  filled-in : (c : FilledCell p) → (ToItself (c .cell .call .read) (c .cell .symbol) → ⊥) → heldIn p (c .cell) ≡ fillingOf p c
+  filled-in c other =
+      let sh = c .cell .call .read in
+      let M = structureFrom p (c .cell .call) in
+      subst (λ (f : ℕ). (ToItself sh f → ⊥) → InSorts (M .size) (symbolAt sh f .params) (c .cell .args) → Unreached sh M f (c .cell .args) → M .table f (c .cell .args) ≡ fillingOf p c) (c .same)
+      (λ o i free. given (c .cell .call) .unreached .filled (c .fill) (c .given) o (c .cell .args) i free) other (c .cell .inside) (c .cell .free)
+
+  not-fills-reached : FillsReached p → ⊥
+  not-fills-reached wrong = wrong .9 (sym (wrong .8) ∙ code-written (wrong .0) (wrong .1) (wrong .2) (wrong .3) (wrong .4))
+
+  not-fill-wins : FillWins p → ⊥
+  not-fill-wins wrong = wrong .3 (sym (wrong .2) ∙ own-kept (wrong .0 .cell) (wrong .1))
+
+  not-fills-with-number : FillsWithNumber p → ⊥
+  not-fills-with-number wrong = wrong .3 (sym (wrong .2) ∙ filled-in (wrong .0) (wrong .1))
+
+  not-takes-second-fill : TakesSecondFill p → ⊥
+  not-takes-second-fill wrong =
+      let s = wrong .0 in
+      let cs = wrong .1 in
+      let ts = wrong .2 in
+      let r : Refused 16 (wrong .3) ≡ Found (wrong .5) =
+      sym (exit s cs ts (turnedDown 16 (wrong .3)) (outcome-refused s 16 (wrong .3) (length cs) (length ts) (wrong .4)) .result) ∙ sym (meets s cs ts .result) ∙ wrong .6 in
+      let z : _≡_ {A = ℕ} 0 1 = cc in
+      omega arith
 
 -- ---- read
 row1-accepted : verdict (reading (row1 .sheet)) ≡ verdicts.Accepted
@@ -259,6 +287,14 @@ unfolding verdict
 not-refuses-no-bytes p meets wrong =
     let e : verdicts.Accepted ≡ verdicts.Refused (wrong .0) (wrong .1) = sym (ap verdict (empty-sheet .reads)) ∙ sym (meets []) ∙ wrong .2 in
     let z : _≡_ {A = ℕ} 0 1 = cc in
+    omega arith
+
+not-sixteen-before-seven : (p : ReadProgram) → MeetsRead p → SixteenBeforeSeven p → ⊥
+unfolding verdict
+not-sixteen-before-seven p meets wrong =
+    let s = wrong .0 in
+    let e : verdicts.Refused 7 (wrong .1) ≡ verdicts.Refused 16 (wrong .3) = sym (ap verdict (wrong .2)) ∙ sym (meets s) ∙ wrong .4 in
+    let z : _≡_ {A = ℕ} 7 16 = cc in
     omega arith
 
 -- ---- judge
@@ -339,8 +375,13 @@ refuted =
       keeps-of-two = not-keeps-of-two;
       overwrites = not-overwrites;
       still-zero = not-still-zero;
+      fills-reached = not-fills-reached;
+      fill-wins = not-fill-wins;
+      fills-with-number = not-fills-with-number;
+      takes-second-fill = not-takes-second-fill;
       refuses-every-sheet = not-refuses-every-sheet;
       refuses-no-bytes = not-refuses-no-bytes;
+      sixteen-before-seven = not-sixteen-before-seven;
       fixed-judgement = not-fixed-judgement;
       passes-tables-for-no-bytes = not-passes-tables-for-no-bytes;
       fixed-forcing = λ p r meets wrong. no-fixed-reply r (λ s sh a b q t. sym (wrong s a b sh q t) ∙ meets s a b);

@@ -50,7 +50,7 @@ module _ (p : WalkProgram) (meets : MeetsWalk p) where
   not-answers-thirteen : AnswersThirteen p → ⊥
   not-answers-thirteen wrong =
       elim (refusal-number _ _ _ _ _ _ _ 13 (wrong .1) (sym (meets (wrong .0) .0) ∙ wrong .2)) [
-        | inl l ↦ omega (arith, l .1)
+        | inl l ↦ elim l [ inl x ↦ omega (arith, x .1) | inr e ↦ omega arith ]
         | inr l ↦ elim (l .0) [ inl e ↦ omega arith | inr r ↦ elim r [ inl e ↦ omega arith | inr e ↦ omega arith ] ]
       ]
 

@@ -1,5 +1,5 @@
 -- The interface: the wrong programs of docs/CONTRACTS.md, "Contracts owed", c, in that order, and those of the requests: about a sheet of zero bytes, about
--- group, and about the cells that no expression reaches. A program is what it gives back, and leaves in the buffers, for every call; to meet a contract is to do
+-- group, about the cells that no expression reaches, and about fills. A program is what it gives back, and leaves in the buffers, for every call; to meet a contract is to do
 -- so at every call. `refuted` of proofs/Refuted.antt: none of these meets the contract of its question.
 use Prim.Native.Nat.{ℕ, _≤_, _<_}
 use mathlib.Core.Path.{_≡_}
@@ -8,10 +8,10 @@ use mathlib.Core.Logic.{_⊎_}
 use mathlib.Core.List.{List, [], _∷_, map}
 use mathlib.Core.Option.{some}
 use lib.ListN.{length}
-use Rattle.logic.specs.Sheet.{Sheet, Symbol, symbolAt, termAt, sortAt}
-use Rattle.logic.specs.Structure.{Structure, InSorts}
+use Rattle.logic.specs.Sheet.{Sheet, Symbol, symbolAt, termAt, fillAt, sortAt}
+use Rattle.logic.specs.Structure.{Structure, InSorts, code}
 use Rattle.prelude.specs.Lists.{at, sumTo}
-use Rattle.layout.specs.Layout.{accepted, reading}
+use Rattle.layout.specs.Layout.{accepted, refused, reading}
 use Rattle.sheet.specs.Verdict.{verdict}
 use Rattle.sheet.specs.declared.Verdict.{Verdict}
 use Rattle.sheet.specs.declared.Verdict.the-variants as verdicts
@@ -29,7 +29,7 @@ use Rattle.group.specs.declared.Grouping.the-variants.{Group}
 use Rattle.finder.specs.Find.{ceilings, Finds}
 use Rattle.finder.specs.Promise.{tablesWritten}
 use Rattle.answer.specs.Answer.{Entry, answer}
-use Rattle.answer.specs.Demand.{Hopeless, Unreached, ToItself}
+use Rattle.answer.specs.Demand.{Hopeless, Unreached, ToItself, Unfilled}
 use Rattle.finder.specs.declared.Finding.{Finding}
 use Rattle.finder.specs.declared.Finding.the-variants.{Found, Refused}
 
@@ -121,13 +121,14 @@ symbolOf p c = symbolAt (c .call .read) (c .symbol)
 abbrev pub heldIn : (p : FindProgram) → FreeCell p → ℕ
 heldIn p c = structureFrom p (c .call) .table (c .symbol) (c .args)
 
--- keeps the code in a table from one field to another: some cell there that no expression reaches holds its own argument's code, and that is not 0
+-- keeps the code in a table from one field to another: some cell there that no expression reaches, of a name without a fill, holds its own argument's code, and
+-- that is not 0
 abbrev pub KeepsAcross : FindProgram → Type 0
-KeepsAcross p = (c : FreeCell p) × (s : ℕ) × (symbolOf p c .params ≡ s ∷ []) × (s ≡ symbolOf p c .result → ⊥) × (heldIn p c ≡ at (c .args) 0) × (heldIn p c ≡ 0 → ⊥)
+KeepsAcross p = (c : FreeCell p) × Unfilled (c .call .read) (c .symbol) × (s : ℕ) × (symbolOf p c .params ≡ s ∷ []) × (s ≡ symbolOf p c .result → ⊥) × (heldIn p c ≡ at (c .args) 0) × (heldIn p c ≡ 0 → ⊥)
 
--- keeps it in two-argument tables: some cell there that no expression reaches holds the code of one of its arguments, and that is not 0
+-- keeps it in two-argument tables: some cell there that no expression reaches, of a name without a fill, holds the code of one of its arguments, and that is not 0
 abbrev pub KeepsOfTwo : FindProgram → Type 0
-KeepsOfTwo p = (c : FreeCell p) × (length (symbolOf p c .params) ≡ 2) × ((heldIn p c ≡ at (c .args) 0) ⊎ (heldIn p c ≡ at (c .args) 1)) × (heldIn p c ≡ 0 → ⊥)
+KeepsOfTwo p = (c : FreeCell p) × Unfilled (c .call .read) (c .symbol) × (length (symbolOf p c .params) ≡ 2) × ((heldIn p c ≡ at (c .args) 0) ⊎ (heldIn p c ≡ at (c .args) 1)) × (heldIn p c ≡ 0 → ⊥)
 
 -- overwrites a reached cell: some call leaves a cell that an expression reaches with another code than the expression has in the answer
 abbrev pub Overwrites : FindProgram → Type 0
@@ -136,6 +137,37 @@ Overwrites p = (c : FoundCall p) × (e : Entry) × (answer (c .read) ≡ some e)
 -- still writes 0: some cell that no expression reaches, of a name with one argument, of the result's field, holds 0, and that is not its own argument's code
 abbrev pub StillZero : FindProgram → Type 0
 StillZero p = (c : FreeCell p) × ToItself (c .call .read) (c .symbol) × (heldIn p c ≡ 0) × (at (c .args) 0 ≡ 0 → ⊥)
+
+-- ---- FIND (request (g))
+-- overwrites a reached cell with the fill: some cell that an expression reaches holds the code of its name's fill, and the expression has another in the answer
+abbrev pub FillsReached : FindProgram → Type 0
+FillsReached p = (c : FoundCall p) × (e : Entry) × (answer (c .read) ≡ some e) × (i : ℕ) × (i < length (c .read .terms)) × (k : ℕ) × (k < length (c .read .fills)) × (fillAt (c .read) k .symbol ≡ termAt (c .read) i .symbol) × (structureFrom p c .table (termAt (c .read) i .symbol) (map (at (e .codes)) (termAt (c .read) i .args)) ≡ at (e .codes) (fillAt (c .read) k .term)) × (at (e .codes) (fillAt (c .read) k .term) ≡ at (e .codes) i → ⊥)
+
+-- a cell of these tables that no expression reaches, of a name with a fill
+pub record FilledCell (p : FindProgram) : Type 0 where
+  pub cell : FreeCell p
+  pub fill : ℕ
+  pub given : fill < length (cell .call .read .fills)
+  pub same : fillAt (cell .call .read) fill .symbol ≡ cell .symbol
+
+-- the expression that fills it, and the code of that expression in these tables
+abbrev pub fillerOf : (p : FindProgram) → FilledCell p → ℕ
+fillerOf p c = fillAt (c .cell .call .read) (c .fill) .term
+
+abbrev pub fillingOf : (p : FindProgram) → FilledCell p → ℕ
+fillingOf p c = code (structureFrom p (c .cell .call)) (c .cell .call .read) (fillerOf p c)
+
+-- lets the fill win over the kept code: some such cell, of a name with one argument, of the result's field, holds the fill's code, and that is not its own argument's
+abbrev pub FillWins : FindProgram → Type 0
+FillWins p = (c : FilledCell p) × ToItself (c .cell .call .read) (c .cell .symbol) × (heldIn p (c .cell) ≡ fillingOf p c) × (fillingOf p c ≡ at (c .cell .args) 0 → ⊥)
+
+-- fills with the expression's number: some such cell of any other name holds the number of the fill's expression, and that is not its code
+abbrev pub FillsWithNumber : FindProgram → Type 0
+FillsWithNumber p = (c : FilledCell p) × (ToItself (c .cell .call .read) (c .cell .symbol) → ⊥) × (heldIn p (c .cell) ≡ fillerOf p c) × (fillerOf p c ≡ fillingOf p c → ⊥)
+
+-- takes a second fill of one name, and so the last of two or the first: something is found on some sheet that is refused with 16
+abbrev pub TakesSecondFill : FindProgram → Type 0
+TakesSecondFill p = (s : List ℕ) × (cs : List ℕ) × (ts : List ℕ) × (i : ℕ) × (reading s ≡ refused 16 i) × (n : ℕ) × (p .result s cs ts ≡ Found n)
 
 -- ---- READ (demand 2)
 abbrev pub ReadProgram : Type 0
@@ -151,6 +183,11 @@ RefusesEverySheet p = (s : List ℕ) → (n : ℕ) × (i : ℕ) × (p s ≡ verd
 -- refuses a sheet of zero bytes, with 1, with 9 or with whatever number and place
 abbrev pub RefusesNoBytes : ReadProgram → Type 0
 RefusesNoBytes p = (n : ℕ) × (i : ℕ) × (p [] ≡ verdicts.Refused n i)
+
+-- ---- READ (request (g))
+-- answers 16 where the first faulty record has cause 7
+abbrev pub SixteenBeforeSeven : ReadProgram → Type 0
+SixteenBeforeSeven p = (s : List ℕ) × (i : ℕ) × (reading s ≡ refused 7 i) × (j : ℕ) × (p s ≡ verdicts.Refused 16 j)
 
 -- ---- JUDGE (demand 2)
 abbrev pub JudgeProgram : Type 0
@@ -233,8 +270,13 @@ pub record Refuted : Type 0 where
   pub keeps-of-two : (p : FindProgram) → MeetsFind p → KeepsOfTwo p → ⊥
   pub overwrites : (p : FindProgram) → MeetsFind p → Overwrites p → ⊥
   pub still-zero : (p : FindProgram) → MeetsFind p → StillZero p → ⊥
+  pub fills-reached : (p : FindProgram) → MeetsFind p → FillsReached p → ⊥
+  pub fill-wins : (p : FindProgram) → MeetsFind p → FillWins p → ⊥
+  pub fills-with-number : (p : FindProgram) → MeetsFind p → FillsWithNumber p → ⊥
+  pub takes-second-fill : (p : FindProgram) → MeetsFind p → TakesSecondFill p → ⊥
   pub refuses-every-sheet : (p : ReadProgram) → MeetsRead p → RefusesEverySheet p → ⊥
   pub refuses-no-bytes : (p : ReadProgram) → MeetsRead p → RefusesNoBytes p → ⊥
+  pub sixteen-before-seven : (p : ReadProgram) → MeetsRead p → SixteenBeforeSeven p → ⊥
   pub fixed-judgement : (p : JudgeProgram) (r : Judgement) → MeetsJudge p → FixedJudgement p r → ⊥
   pub passes-tables-for-no-bytes : (p : JudgeProgram) → MeetsJudge p → PassesTablesForNoBytes p → ⊥
   pub fixed-forcing : (p : ForcedProgram) (r : Forcing) → MeetsForced p → FixedForcing p r → ⊥

@@ -4,8 +4,8 @@ use finder::MOST_TABLES;
 use fitted::Fitting;
 use layout::Parsed;
 use lines::complaint_line;
-use prelude::MOST_SHEET_BYTES;
 use prelude::MOST_TERMS;
+use prelude::MOST_WRITTEN_BYTES;
 use prelude::lesser;
 use prelude::wide;
 use questions::MOST_DECODED;
@@ -25,7 +25,7 @@ ghost use Prim.Native.Nat.{_≤_};
 ghost use mathlib.Core.Path.{_≡_};
 ghost use lib.ListN.{length};
 ghost use Rattle.logic.specs.Sheet.{Sheet};
-ghost use Rattle.prelude.specs.Limits.{mostSheetBytes};
+ghost use Rattle.prelude.specs.Limits.{mostWrittenBytes};
 ghost use Rattle.prelude.specs.Lists.{at};
 ghost use Rattle.tables.specs.Layout.{extent};
 ghost use Rattle.tables.specs.Parts.{Packs, Limited};
@@ -192,14 +192,14 @@ fn fitted_with(sheet: &[u8], room: usize, out: &mut [u8]) -> usize
     requires { ⌜ answerRoom ≤ length (now out) ⌝ }
     ensures { λ r. ⌜ Wrote (now (out .entry)) 0 (fittedLine (Filing·outcome (now (sheet .entry)) «room»)) (now (out .exit)) r ⌝ }
 {
-    let mut buffer = [0u8; MOST_SHEET_BYTES];
-    let lent = lesser(room, MOST_SHEET_BYTES);
+    let mut buffer = [0u8; MOST_WRITTEN_BYTES];
+    let lent = lesser(room, MOST_WRITTEN_BYTES);
     fitted_into(sheet, &mut buffer[..lent], out)
 }
 
 // Asks fitted with this buffer, and shows the sheet that stands in front of it then.
 fn fitted_into(sheet: &[u8], buffer: &mut [u8], out: &mut [u8]) -> usize
-    requires { ⌜ (length (now buffer) ≤ mostSheetBytes) × (answerRoom ≤ length (now out)) ⌝ }
+    requires { ⌜ (length (now buffer) ≤ mostWrittenBytes) × (answerRoom ≤ length (now out)) ⌝ }
     ensures { λ r. ⌜ Wrote (now (out .entry)) 0 (fittedLine (Filing·outcome (now (sheet .entry)) (length (now (buffer .entry))))) (now (out .exit)) r ⌝ }
 {
     let answer = fitted::fitted(sheet, buffer);

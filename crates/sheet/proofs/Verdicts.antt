@@ -1,8 +1,8 @@
 -- What the parser hands over says whether the bytes are accepted: number 0 stands for an accepted sheet, since no refusal has it. Hence the
 -- answer to "read".
 use Prim.Native.Nat.{ℕ}
-use native.Mathlib.Omega.{arith}
 use mathlib.Core.Path.{_≡_, refl, ap, sym, _∙_}
+use mathlib.Core.Logic.{inl}
 use mathlib.Core.List.{List}
 use Rattle.logic.specs.Sheet.{Sheet}
 use Rattle.layout.specs.Layout.{Reading, accepted, refused, reading, empty}
@@ -10,7 +10,7 @@ use Rattle.layout.specs.Packed.{packed}
 use Rattle.sheet.specs.Verdict.{parsing, verdict}
 use Rattle.sheet.specs.declared.Parsing.{Parsing}
 use Rattle.sheet.specs.declared.Verdict.the-variants.{Accepted, Refused}
-use Rattle.layout.proofs.Answers.{refused-number}
+use Rattle.layout.proofs.Answers.{refused-not}
 
 -- the bytes are accepted, and the parsed sheet stands for the sheet that they say
 pub record Accepts (s : List ℕ) (q : Parsing) : Type 0 where
@@ -30,7 +30,7 @@ module _ (s : List ℕ) (q : Parsing) (e : q ≡ parsing (reading s)) where
     where
       go : (R : Reading) → reading s ≡ R → Accepts s q
       go (accepted sh) r = record { sheet = sh; reads = r; same = ap (λ (x : Parsing). x .sheet) (e ∙ ap parsing r) }
-      go (refused n i) r = absurd (omega (arith, ap (λ (x : Parsing). x .number) (e ∙ ap parsing r), refused-number s n i r))
+      go (refused n i) r = absurd (refused-not s n i 0 r (inl refl) (sym (ap (λ (x : Parsing). x .number) (e ∙ ap parsing r)) ∙ z))
 
   pub number-refused : (q .number ≡ 0 → ⊥) → Refuses s q
   unfolding parsing

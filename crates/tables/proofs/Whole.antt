@@ -13,6 +13,7 @@ use Rattle.prelude.specs.Lists.{at}
 use Rattle.prelude.proofs.Tests.{and-no, every-same, and-first}
 use Rattle.prelude.proofs.Lists.{sumTo-same}
 use Rattle.layout.specs.declared.Parsed.{Parsed}
+use Rattle.layout.proofs.Pack.{contents}
 use Rattle.tables.specs.Layout.{offset, extent}
 use Rattle.tables.specs.Tests.{sizesRight, entriesRight, wellLaid, inBounds}
 use Rattle.tables.specs.Parts.{Packs, Limited, Extents, Laying}
@@ -29,6 +30,7 @@ packs-limited sh p k =
       symbols = omega (arith, symbols-packed sh p k, w .symbols);
       terms = omega (arith, s .terms, w .terms);
       literals = omega (arith, s .literals, w .literals);
+      fills = omega (arith, contents p sh (k .same) .fills, w .fills);
     }
 
 -- sizes that were copied from the tables, by the sheet's count of sorts

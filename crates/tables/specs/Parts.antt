@@ -8,7 +8,7 @@ use lib.ListN.{length}
 use lib.Dec.{ltb}
 use Rattle.logic.specs.Sheet.{Sheet, symbolAt}
 use Rattle.prelude.specs.Lists.{at}
-use Rattle.prelude.specs.Limits.{mostSorts, mostSymbols, mostTerms, mostLiterals}
+use Rattle.prelude.specs.Limits.{mostSorts, mostSymbols, mostTerms, mostLiterals, mostFills}
 use Rattle.logic.specs.WellFormed.{WellFormed}
 use Rattle.layout.specs.Packed.{packed}
 use Rattle.layout.specs.declared.Parsed.{Parsed}
@@ -25,6 +25,7 @@ pub record Limited (p : Parsed) : Type 0 where
   pub symbols : p .symbols ≤ mostSymbols
   pub terms : p .terms ≤ mostTerms
   pub literals : p .literals ≤ mostLiterals
+  pub fills : p .fills ≤ mostFills
 
 -- Bounds to count with, whatever the bytes: two bytes as sizes give a table no more cells, and the most sizes with the most such tables have
 -- no more bytes.

@@ -35,6 +35,15 @@ pub fn code_of(key: [u8; KEY], term: usize) -> u8 {
     key[k]
 }
 
+// Where in the tables the cell stands that the term reaches: its symbol's, at the codes of its arguments.
+pub fn place_of(p: [u8; PLAN], s: Shape, key: [u8; KEY], term: usize) -> usize {
+    let t = record_at(p, TERMS, term);
+    let row = argument(key, 1 < t.length, t.y);
+    let column = argument(key, 2 < t.length, t.z);
+    let its = stretch_of(s, wide(t.x));
+    plus(its.from, plus(times(its.columns, row), column))
+}
+
 // The number of the first literal that the codes break, or how many literals there are.
 pub fn first_broken(p: [u8; PLAN], key: [u8; KEY]) -> usize {
     let n = count(p, LITERALS);
@@ -75,13 +84,8 @@ fn with_code(key: [u8; KEY], term: usize, code: u8) -> [u8; KEY] {
     more
 }
 
-// What the term's symbol holds at the codes of its arguments.
 fn cell(p: [u8; PLAN], s: Shape, tables: &[u8; ROOM], key: [u8; KEY], term: usize) -> u8 {
-    let t = record_at(p, TERMS, term);
-    let row = argument(key, 1 < t.length, t.y);
-    let column = argument(key, 2 < t.length, t.z);
-    let its = stretch_of(s, wide(t.x));
-    let k = plus(its.from, plus(times(its.columns, row), column)) % ROOM;
+    let k = place_of(p, s, key, term) % ROOM;
     tables[k]
 }
 

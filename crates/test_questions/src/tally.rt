@@ -1,5 +1,7 @@
 // What was compared, how often, and where the entry points and the listing differ.
+use test_sheets::numbers::minus;
 use test_sheets::numbers::wide;
+use test_sheets::plan::FILLS;
 use test_sheets::plan::LITERALS;
 use test_sheets::plan::PLAN;
 use test_sheets::plan::SORTS;
@@ -8,7 +10,7 @@ use test_sheets::plan::TERMS;
 use test_sheets::plan::count;
 use test_sheets::plan::record_at;
 
-pub const COUNTS: usize = 38;
+pub const COUNTS: usize = 43;
 
 // The counts, in the order of the report.
 pub const SHEETS: usize = 0;
@@ -23,69 +25,79 @@ pub const NO_LITERALS: usize = 4;
 
 pub const CROSSED: usize = 5;
 
-pub const LISTED: usize = 6;
+pub const WITH_FILL: usize = 6;
 
-pub const CANDIDATES: usize = 7;
+pub const LISTED: usize = 7;
 
-pub const FOUND: usize = 8;
+pub const CANDIDATES: usize = 8;
 
-pub const NO_ANSWER: usize = 9;
+pub const FOUND: usize = 9;
 
-pub const SHORT: usize = 10;
+pub const NO_ANSWER: usize = 10;
 
-pub const KEPT: usize = 11;
+pub const SHORT: usize = 11;
 
-pub const FITS: usize = 12;
+pub const KEPT: usize = 12;
 
-pub const OUT_OF_BOUNDS: usize = 13;
+pub const FILLED: usize = 13;
 
-pub const BROKEN: usize = 14;
+pub const AGAINST: usize = 14;
 
-pub const DAMAGED: usize = 15;
+pub const FITS: usize = 15;
 
-pub const STRETCH: usize = 16;
+pub const OUT_OF_BOUNDS: usize = 16;
 
-pub const EMPTY: usize = 17;
+pub const BROKEN: usize = 17;
 
-pub const SETTLED: usize = 18;
+pub const DAMAGED: usize = 18;
 
-pub const STRUCTURES: usize = 19;
+pub const STRETCH: usize = 19;
 
-pub const FORCED: usize = 20;
+pub const EMPTY: usize = 20;
 
-pub const FREE: usize = 21;
+pub const SETTLED: usize = 21;
 
-pub const NO_PAIR: usize = 22;
+pub const STRUCTURES: usize = 22;
 
-pub const LOWER: usize = 23;
+pub const FORCED: usize = 23;
 
-pub const OWN: usize = 24;
+pub const FREE: usize = 24;
 
-pub const NO_TERM: usize = 25;
+pub const NO_PAIR: usize = 25;
 
-pub const FITTED: usize = 26;
+pub const LOWER: usize = 26;
 
-pub const NOT_FITTED: usize = 27;
+pub const OWN: usize = 27;
 
-pub const TOO_MANY: usize = 28;
+pub const NO_TERM: usize = 28;
 
-pub const TOO_SHORT: usize = 29;
+pub const FITTED: usize = 29;
 
-pub const FOUND_AGAIN: usize = 30;
+pub const NOT_FITTED: usize = 30;
 
-pub const WALKS: usize = 31;
+pub const TOO_MANY: usize = 31;
 
-pub const WALKED: usize = 32;
+pub const TOO_SHORT: usize = 32;
 
-pub const WALKED_CODES: usize = 33;
+pub const FOUND_AGAIN: usize = 33;
 
-pub const SHORT_TRAIL: usize = 34;
+pub const WALKS: usize = 34;
 
-pub const WALK_DAMAGED: usize = 35;
+pub const WALKED: usize = 35;
 
-pub const NO_WALK: usize = 36;
+pub const WALKED_CODES: usize = 36;
 
-pub const DIFFERENCES: usize = 37;
+pub const SHORT_TRAIL: usize = 37;
+
+pub const WALK_DAMAGED: usize = 38;
+
+pub const NO_WALK: usize = 39;
+
+pub const SECOND_FILL: usize = 40;
+
+pub const BEHIND_FILL: usize = 41;
+
+pub const DIFFERENCES: usize = 42;
 
 pub fn add(counts: &mut [u64; COUNTS], at: usize, n: usize) {
     let k = at % COUNTS;
@@ -100,6 +112,7 @@ pub fn tried(p: [u8; PLAN], counts: &mut [u64; COUNTS]) {
     add(counts, NO_TERMS, none(p, TERMS));
     add(counts, NO_LITERALS, none(p, LITERALS));
     add(counts, CROSSED, crossed(p));
+    add(counts, WITH_FILL, minus(1, none(p, FILLS)));
 }
 
 // Counts an outcome that the listing says, and prints the sheet where the answer to the question is another one.
@@ -133,12 +146,13 @@ pub fn report(counts: &[u64; COUNTS]) {
     let n = report_find(counts, report_sheets(counts, 0));
     let m = report_forced(counts, report_judge(counts, n));
     let k = report_fitted(counts, report_group(counts, m));
-    fill(b"differences #\n", counts, report_walk(counts, k));
+    let l = report_fills(counts, report_walk(counts, k));
+    fill(b"differences #\n", counts, l);
 }
 
 fn report_sheets(counts: &[u64; COUNTS], n: usize) -> usize {
     fill(
-        b"sheets #\n- without fields #\n- without names #\n- without expressions #\n- without statements #\n- with a floor above its ceiling #\n",
+        b"sheets #\n- without fields #\n- without names #\n- without expressions #\n- without statements #\n- with a floor above its ceiling #\n- with a fill #\n",
         counts,
         n,
     )
@@ -146,7 +160,7 @@ fn report_sheets(counts: &[u64; COUNTS], n: usize) -> usize {
 
 fn report_find(counts: &[u64; COUNTS], n: usize) -> usize {
     fill(
-        b"find and judge: sheets #\n- interpretations listed #\n- found #\n- refused 11 #\n- refused 10, a buffer one byte short #\n- unforced cells that keep a code other than 0 #\n",
+        b"find and judge: sheets #\n- interpretations listed #\n- found #\n- refused 11 #\n- refused 10, a buffer one byte short #\n- unforced cells that keep a code other than 0 #\n- unforced cells that hold a fill's code other than 0 #\n- unforced cells that keep their code against a fill #\n",
         counts,
         n,
     )
@@ -187,6 +201,14 @@ fn report_fitted(counts: &[u64; COUNTS], n: usize) -> usize {
 fn report_walk(counts: &[u64; COUNTS], n: usize) -> usize {
     fill(
         b"walk: walks #\n- written #\n- codes written #\n- refused 10, a start past the end or too few bytes behind it #\n- refused 12, damaged tables #\n- refused 15 #\n",
+        counts,
+        n,
+    )
+}
+
+fn report_fills(counts: &[u64; COUNTS], n: usize) -> usize {
+    fill(
+        b"fills: a second one, refused 16 #\n- a statement behind one, refused 3 #\n",
         counts,
         n,
     )

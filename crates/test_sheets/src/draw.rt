@@ -1,8 +1,9 @@
-// Draws a sheet: up to three sorts, six symbols of any arity, twelve terms and eight literals, and a total that may bind.
+// Draws a sheet: up to three sorts, six symbols of any arity, twelve terms and eight literals, fills of some symbols, and a total that may bind.
 use crate::dice::pick;
 use crate::numbers::minus;
 use crate::numbers::plus;
 use crate::numbers::wide;
+use crate::plan::FILLS;
 use crate::plan::LITERALS;
 use crate::plan::PLAN;
 use crate::plan::SAME;
@@ -11,6 +12,7 @@ use crate::plan::SYMBOLS;
 use crate::plan::TERMS;
 use crate::plan::TOTAL;
 use crate::plan::count;
+use crate::plan::fill_of;
 use crate::plan::record_at;
 use crate::plan::sort_of;
 use crate::plan::with;
@@ -70,16 +72,23 @@ fn choice_terms(p: [u8; PLAN]) -> [u8; PLAN] {
     with(right, LITERALS, 5, 2, 4, 5, 0)
 }
 
-// Literals, and most often a total near the sum of the floors.
+// Literals, fills, and most often a total near the sum of the floors.
 fn rest(p: [u8; PLAN], state: &mut u64) -> [u8; PLAN] {
     let literals = pick(state, 8);
     let q = records(p, LITERALS, literals, state);
     let total = greatest(floors(q), state);
-    with(q, TOTAL, 6, 1, total, 0, 0)
+    with(with_fills(q, *state), TOTAL, 6, 1, total, 0, 0)
+}
+
+// Fills in about half of the sheets. They are drawn from a copy of the state, so that the sheets are otherwise the same with them and without.
+fn with_fills(p: [u8; PLAN], state: u64) -> [u8; PLAN] {
+    let mut own = state;
+    let fills = how_many_fills(&mut own);
+    records(p, FILLS, fills, &mut own)
 }
 
 // The plan with up to n records more in a part.
-fn records(p: [u8; PLAN], part: usize, n: usize, state: &mut u64) -> [u8; PLAN] {
+pub(crate) fn records(p: [u8; PLAN], part: usize, n: usize, state: &mut u64) -> [u8; PLAN] {
     let mut q = p;
     for _ in 0..n {
         let more = one_more(q, part, state);
@@ -93,7 +102,8 @@ fn one_more(p: [u8; PLAN], part: usize, state: &mut u64) -> [u8; PLAN] {
         SORTS => sort(p, state),
         SYMBOLS => symbol(p, state),
         TERMS => term(p, state),
-        _ => literal(p, state),
+        LITERALS => literal(p, state),
+        _ => fill(p, state),
     }
 }
 
@@ -247,6 +257,25 @@ fn after_last(p: [u8; PLAN], again: bool) -> [u8; PLAN] {
     let l = record_at(p, LITERALS, minus(count(p, LITERALS), 1));
     let kind = if (l.kind == SAME) == again { SAME } else { 5 };
     with(p, LITERALS, kind, 2, wide(l.x), wide(l.y), 0)
+}
+
+fn how_many_fills(state: &mut u64) -> usize {
+    if pick(state, 8) < 3 {
+        return 0;
+    }
+    plus(1, pick(state, 6))
+}
+
+// A fill more, unless the symbol has one or no term is of its result's sort. (Without a symbol there is no term.)
+fn fill(p: [u8; PLAN], state: &mut u64) -> [u8; PLAN] {
+    let symbol = pick(state, count(p, SYMBOLS));
+    let from = pick(state, count(p, TERMS));
+    let y = record_at(p, SYMBOLS, symbol);
+    let term = of_sort(p, y.x, from);
+    if term == NONE || fill_of(p, symbol) < count(p, FILLS) {
+        return p;
+    }
+    with(p, FILLS, 7, 2, symbol, term, 0)
 }
 
 fn floors(p: [u8; PLAN]) -> usize {

@@ -1,17 +1,34 @@
 // Writes a sheet as bytes, record after record (docs/FORMAT.md, The sheet).
 use crate::numbers::wide;
+use crate::plan::PARTS;
 use crate::plan::PLAN;
 use crate::plan::Record;
 use crate::plan::count;
 use crate::plan::record_at;
 
-// More bytes than any sheet has that is accepted.
+// More bytes than any sheet has that is drawn or fitted.
 pub const SHEET: usize = 2304;
 
-// Writes the sheet from the start of the bytes and gives its length: part after part, of the 16 places of each those that have a record.
+// The number of a part's first place in the plan: each part has 16 places, and those past its last record are empty.
+pub fn first_place(part: usize) -> usize {
+    part % 16 * 16
+}
+
+// Writes the sheet from the start of the bytes and gives its length.
 pub fn encode(p: [u8; PLAN], bytes: &mut [u8; SHEET]) -> usize {
-    let mut at: usize = 0;
-    for k in 0..80 {
+    put_places(p, 0, first_place(PARTS), bytes, 0)
+}
+
+// Writes the records at the plan's places first..last, one behind the other, and gives the place after them.
+pub fn put_places(
+    p: [u8; PLAN],
+    first: usize,
+    last: usize,
+    bytes: &mut [u8; SHEET],
+    from: usize,
+) -> usize {
+    let mut at = from;
+    for k in first..last {
         if k % 16 < count(p, k / 16) {
             at = put(bytes, at, record_at(p, k / 16, k % 16));
         }

@@ -12,7 +12,7 @@ pub const MOST_TERMS: usize = 16;
 
 // A plan is a row of bytes, since a check is slow on structs that hold structs: how many records each of its parts has, and then 16 places
 // for records of each part. What stands past the last record of a part is 0.
-pub const PLAN: usize = 408;
+pub const PLAN: usize = 488;
 
 // The parts, in the order of the sheet.
 pub const SORTS: usize = 0;
@@ -23,13 +23,15 @@ pub const TERMS: usize = 2;
 
 pub const LITERALS: usize = 3;
 
-pub const TOTAL: usize = 4;
+pub const FILLS: usize = 4;
 
-const PARTS: usize = 5;
+pub const TOTAL: usize = 5;
+
+pub const PARTS: usize = 6;
 
 // A record: its kind on the sheet, how many numbers it has, and these; what stands past them is nothing. They are the floor and the ceiling
 // of a sort; the result's sort of a symbol and the sort of each argument; the symbol of a term and each argument; the two sides of a literal;
-// the total.
+// the symbol of a fill and its term; the total.
 pub struct Record {
     pub kind: u8,
     pub length: u8,
@@ -88,8 +90,20 @@ pub fn sort_of(p: [u8; PLAN], term: usize) -> u8 {
     y.x
 }
 
+// The number of the symbol's fill, or how many fills there are where it has none.
+pub fn fill_of(p: [u8; PLAN], symbol: usize) -> usize {
+    let n = count(p, FILLS);
+    for k in 0..n {
+        let r = record_at(p, FILLS, k);
+        if wide(r.x) == symbol {
+            return k;
+        }
+    }
+    n
+}
+
 fn place(part: usize, k: usize) -> usize
-    ensures { λ r. ⌜ r ≤ 403 ⌝ }
+    ensures { λ r. ⌜ r ≤ 483 ⌝ }
 {
     8 + part % PARTS * 80 + k % 16 * 5
 }

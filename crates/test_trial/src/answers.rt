@@ -6,8 +6,10 @@ use test_listing::answer::list;
 use test_listing::keys::KEY;
 use test_listing::shape::ROOM;
 use test_listing::shape::shaped;
-use test_listing::unforced::keep_codes;
+use test_listing::unforced::fill_tables;
+use test_questions::tally::AGAINST;
 use test_questions::tally::COUNTS;
+use test_questions::tally::FILLED;
 use test_questions::tally::KEPT;
 use test_questions::tally::LISTED;
 use test_questions::tally::add;
@@ -17,9 +19,11 @@ use test_sheets::plan::PLAN;
 pub(crate) fn compare(p: [u8; PLAN], sheet: &[u8], counts: &mut [u64; COUNTS]) {
     let mut best = [0u8; ROOM];
     let key = list(p, &mut best);
-    let kept = keep_codes(p, key, &mut best);
+    let u = fill_tables(p, key, &mut best);
     add(counts, LISTED, 1);
-    add(counts, KEPT, kept);
+    add(counts, KEPT, u.kept);
+    add(counts, FILLED, u.filled);
+    add(counts, AGAINST, u.against);
     finds::compare(p, key, &best, sheet, counts);
     fits::compare(p, key, &best, sheet, counts);
     if key[0] != NOTHING {

@@ -1,8 +1,9 @@
 // The sheet of zero bytes, sheets at the limits of fitted sheets, and random small sheets from a fixed seed. Find, judge, table of a name, walk, forced, group
-// and fitted are asked about each, and what they give is compared with a listing of all interpretations (crate test_listing). The numbers printed are
-// fixed by the seed; a difference is printed with its sheet.
+// and fitted are asked about each, and what they give is compared with a listing of all interpretations (crate test_listing); read and find are asked about
+// each sheet with a fill once more, with that fill out of place. The numbers printed are fixed by the seed; a difference is printed with its sheet.
 mod answers; // find and fitted, over one listing, and walk on its answer
 mod buffers; // what a buffer holds
+mod fills; // read and find are asked about a fill out of place
 mod finds; // find is asked
 mod fits; // fitted is asked
 
@@ -17,8 +18,12 @@ use test_sheets::draw;
 use test_sheets::encode;
 use test_sheets::full;
 use test_sheets::plan::PLAN;
+use test_sheets::spare;
 
-const DRAWN: usize = 4000;
+// How many sheets are drawn, the last of them with many unforced cells.
+const DRAWN: usize = 4200;
+
+const SPARE: usize = 200;
 
 fn main() {
     let mut state: u64 = 1;
@@ -27,7 +32,7 @@ fn main() {
     at_limits(&mut counts);
     let mut k: usize = 0;
     while k < DRAWN {
-        one_sheet(draw::draw(&mut state), &mut counts);
+        one_sheet(drawn(k, &mut state), &mut counts);
         k += 1;
     }
     tally::report(&counts);
@@ -41,11 +46,20 @@ fn at_limits(counts: &mut [u64; tally::COUNTS]) {
     one_sheet(full::of_statements(1), counts);
 }
 
+// Sheet k of those that are drawn.
+fn drawn(k: usize, state: &mut u64) -> [u8; PLAN] {
+    if k < DRAWN - SPARE {
+        return draw::draw(state);
+    }
+    spare::spare(state)
+}
+
 fn one_sheet(p: [u8; PLAN], counts: &mut [u64; tally::COUNTS]) {
     let mut bytes = [0u8; encode::SHEET];
     let n = encode::encode(p, &mut bytes);
     tally::tried(p, counts);
     compare(p, &bytes, n, counts);
+    fills::compare(p, counts);
 }
 
 // Asks the questions, each where its listing is within the budget.

@@ -3,3 +3,4 @@ pub mod Events
 pub mod Outcomes
 pub mod Walked
 pub mod InTurn
+pub mod Fills

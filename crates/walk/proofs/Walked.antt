@@ -7,10 +7,9 @@ use mathlib.Core.List.{List, []}
 use lib.ListN.{length, take, drop}
 use Rattle.prelude.specs.Lists.{at}
 use Rattle.prelude.specs.Pasted.{pasted}
-use Rattle.prelude.specs.Tests.{Within}
 use Rattle.prelude.proofs.Pasted.{pasted-none, pasted-before, pasted-there, pasted-behind, at-pasted}
 use Rattle.logic.specs.Sheet.{Sheet}
-use Rattle.layout.specs.Layout.{accepted, reading}
+use Rattle.layout.specs.Layout.{accepted, reading, InSheet}
 use Rattle.layout.proofs.Answers.{refused-number}
 use Rattle.tables.specs.Layout.{decoded, WellLaid}
 use Rattle.tables.proofs.Laid.{well-laid-test, laid-interprets}
@@ -68,11 +67,11 @@ module _ (sheet t : List ℕ) (s c : ℕ) (fs : List ℕ) (room start : ℕ) whe
   )
 
   -- THEOREM: the numbers that it refuses with are those of reading, 10, 12 and 15, from 10 on with place 0
-  pub refusal-number : (n i : ℕ) → walking sheet t s c fs room start ≡ Refused n i → Within 1 9 n ⊎ (((n ≡ 10) ⊎ ((n ≡ 12) ⊎ (n ≡ 15))) × (i ≡ 0))
+  pub refusal-number : (n i : ℕ) → walking sheet t s c fs room start ≡ Refused n i → InSheet n ⊎ (((n ≡ 10) ⊎ ((n ≡ 12) ⊎ (n ≡ 15))) × (i ≡ 0))
   refusal-number n i e = go (way sheet t s c fs room start)
     where
       Listed : Type 0
-      Listed = Within 1 9 n ⊎ (((n ≡ 10) ⊎ ((n ≡ 12) ⊎ (n ≡ 15))) × (i ≡ 0))
+      Listed = InSheet n ⊎ (((n ≡ 10) ⊎ ((n ≡ 12) ⊎ (n ≡ 15))) × (i ≡ 0))
 
       numbers : (m j : ℕ) → outcome sheet t s c fs room start ≡ turnedDown m j → (n ≡ m) × (i ≡ j)
       numbers m j q = let r : Refused n i ≡ Refused m j = sym e ∙ result-of sheet t s c fs room start (turnedDown m j) q in (cc, cc)
@@ -80,8 +79,7 @@ module _ (sheet t : List ℕ) (s c : ℕ) (fs : List ℕ) (room start : ℕ) whe
       go : Way sheet t s c fs room start → Listed
       go (unread m j q) =
           let y = numbers m j (outcome-refused sheet t s c fs room start m j q) in
-          let l = refused-number sheet m j q in
-          inl (omega (arith, y .0, l), omega (arith, y .0, l))
+          inl (subst InSheet (sym (y .0)) (refused-number sheet m j q))
       go (short sh q h) = let y = numbers 10 0 (outcome-short sheet t s c fs room start sh q h) in inr (inl (y .0), y .1)
       go (malformed sh q h l) = let y = numbers 12 0 (outcome-malformed sheet t s c fs room start sh q h l) in inr (inr (inl (y .0)), y .1)
       go (absent sh q h l w) = let y = numbers 15 0 (outcome-absent sheet t s c fs room start sh q h l w) in inr (inr (inr (y .0)), y .1)

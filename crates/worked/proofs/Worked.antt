@@ -14,7 +14,7 @@ use Rattle.layout.specs.Layout.{Reading, accepted, refused, empty, reading, rea
 use Rattle.tables.specs.Layout.{extent}
 use Rattle.answer.specs.Answer.{Entry, answer, solves, unforced}
 use Rattle.finder.specs.Find.{turnedDown, ceilings, answering, finds, codesIn, tablesIn}
-use Rattle.worked.specs.Worked.{Row, row1, row2, row3, row4, row5, row6, row7, row8, row9, row10, row11, row12, row13, row14, row15, printed, rows, Shown, Shows, All}
+use Rattle.worked.specs.Worked.{Row, row1, row2, row3, row4, row5, row6, row7, row8, row9, row10, row11, row12, row13, row14, row15, printed, filled, rows, Shown, Shows, All}
 use Rattle.answer.proofs.Solving.{Solution}
 use Rattle.answer.proofs.Listing.{unsolvable}
 use Rattle.finder.proofs.Outcomes.{outcome-long, outcome-short}
@@ -78,6 +78,7 @@ threeAndFive bounds symbols total =
           ∷ record { equal = true; left = 0; right = 5 }
           ∷ record { equal = false; left = 0; right = 1 }
           ∷ [];
+      fills = [];
       total = total;
     }
 
@@ -144,7 +145,10 @@ worked = (
                               plainly row15 refl refl refl refl (λ cs. refl) (λ ts. refl),
                               (
                                 plainly printed refl refl refl refl (λ cs. refl) (λ ts. refl),
-                                tt,
+                                (
+                                  plainly filled refl refl refl refl (λ cs. refl) (λ ts. refl),
+                                  tt,
+                                ),
                               ),
                             ),
                           ),

@@ -6,7 +6,7 @@ use mathlib.Core.Logic.{_↔_}
 use mathlib.Core.List.{List, []}
 use mathlib.Core.Option.{some}
 use lib.ListN.{length}
-use Rattle.prelude.specs.Limits.{mostSheetBytes}
+use Rattle.prelude.specs.Limits.{mostWrittenBytes}
 use Rattle.logic.specs.Structure.{Structure, Candidate, Satisfies, codes}
 use Rattle.logic.specs.Order.{sizesOf, sumOf}
 use Rattle.layout.specs.Layout.{accepted, reading, empty}
@@ -58,8 +58,8 @@ pub record EmptySheet : Type 0 where
   pub group : (e : ℕ) → grouping [] e ≡ groupings.Refused 13 0
   pub table : (t : List ℕ) (f : ℕ) → tableOf [] t f ≡ nowhere
   -- fitted writes zero bytes, and wants its buffer all the same
-  pub fitted : (room : ℕ) → mostSheetBytes ≤ room → fitting [] room ≡ fittings.Written 0
-  pub short : (room : ℕ) → room < mostSheetBytes → fitting [] room ≡ fittings.Refused 10 0
+  pub fitted : (room : ℕ) → mostWrittenBytes ≤ room → fitting [] room ≡ fittings.Written 0
+  pub short : (room : ℕ) → room < mostWrittenBytes → fitting [] room ≡ fittings.Refused 10 0
   pub buffer : (out : List ℕ) → bufferAfter [] out ≡ out
   -- there is no field to walk in: no event or many, a trail with room gets 15, or 12 for tables that are not its own, and no walk writes
   pub walk : (s c : ℕ) (fs : List ℕ) (room start : ℕ) → start + length fs ≤ room → walking [] [] s c fs room start ≡ walkings.Refused 15 0

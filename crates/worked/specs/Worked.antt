@@ -1,4 +1,4 @@
--- Interface. The worked sheets (docs/FORMAT.md, "Worked sheets") as one table, and the printed example. A row has the sheet's bytes, the
+-- Interface. The worked sheets (docs/FORMAT.md, "Worked sheets") as one table, the printed example and one with fills. A row has the sheet's bytes, the
 -- lengths of the code and table buffers that it asks for, and what "find" is to give back and to write; a refused call writes nothing.
 use Prim.Native.Nat.{ℕ, _≤_, _<_}
 use mathlib.Core.Path.{_≡_}
@@ -41,6 +41,10 @@ same x y = packet 4 (x ∷ y ∷ [])
 
 abbrev pub differ : ℕ → ℕ → List ℕ
 differ x y = packet 5 (x ∷ y ∷ [])
+
+-- a fill of a name by an expression
+abbrev pub fill : ℕ → ℕ → List ℕ
+fill f x = packet 7 (f ∷ x ∷ [])
 
 abbrev pub total : ℕ → List ℕ
 total n = packet 6 (n ∷ [])
@@ -158,6 +162,24 @@ row14 = record { sheet = field 2 2 ++ event ++ total 16; codeBytes = 0; tableByt
 abbrev pub row15 : Row
 row15 = record { sheet = []; codeBytes = 0; tableBytes = 0; result = Found 0; codes = []; tables = [] }
 
+-- fills (docs/FORMAT.md, "Which answer"): the names x, office, f, h, k, y and g, the expressions x, k(x, x) and office
+abbrev pub callOffice : List ℕ
+callOffice =
+    name 0 ++ name 0 ++ event ++ packet 2 (0 ∷ 1 ∷ []) ++ packet 2 (0 ∷ 0 ∷ 0 ∷ []) ++ name 0 ++ packet 2 (0 ∷ 1 ∷ [])
+    ++ constant 0 ++ packet 3 (4 ∷ 0 ∷ 0 ∷ []) ++ constant 1
+    ++ differ 0 2
+
+abbrev pub filled : Row
+filled =
+    record {
+      sheet = field 2 2 ++ field 2 2 ++ callOffice ++ fill 2 2 ++ fill 3 2 ++ fill 4 2 ++ fill 5 2 ++ total 16;
+      codeBytes = 3;
+      tableBytes = 15;
+      result = Found 4;
+      codes = 0 ∷ 0 ∷ 1 ∷ [];
+      tables = (2 ∷ 2 ∷ []) ++ (0 ∷ []) ++ (1 ∷ []) ++ (0 ∷ 1 ∷ []) ++ (1 ∷ 1 ∷ []) ++ (0 ∷ 1 ∷ 1 ∷ 1 ∷ []) ++ (1 ∷ []) ++ (0 ∷ 0 ∷ []);
+    }
+
 -- the printed example, case 9 with total 3, byte by byte
 abbrev pub printed : Row
 printed =
@@ -187,7 +209,7 @@ printed =
 
 abbrev pub rows : List Row
 rows =
-    row1 ∷ row2 ∷ row3 ∷ row4 ∷ row5 ∷ row6 ∷ row7 ∷ row8 ∷ row9 ∷ row10 ∷ row11 ∷ row12 ∷ row13 ∷ row14 ∷ row15 ∷ printed ∷ []
+    row1 ∷ row2 ∷ row3 ∷ row4 ∷ row5 ∷ row6 ∷ row7 ∷ row8 ∷ row9 ∷ row10 ∷ row11 ∷ row12 ∷ row13 ∷ row14 ∷ row15 ∷ printed ∷ filled ∷ []
 
 -- What a row says: for all buffers that are long enough for the sheet, the result, and every byte of both at exit.
 pub record Shown (r : Row) (cs ts : List ℕ) : Type 0 where

@@ -6,14 +6,16 @@ use prelude::MOST_CODES;
 use prelude::MOST_SORTS;
 use prelude::wide;
 ghost use mathlib.Core.Path.{_≡_};
+ghost use mathlib.Core.Option.{Option·getD};
 ghost use Prim.Native.Nat.{ℕ, _≤_, _<_};
 ghost use lib.ListN.{length, take};
-ghost use Rattle.prelude.specs.Limits.{mostSymbols, mostTerms, mostCodes};
+ghost use Rattle.prelude.specs.Limits.{mostSymbols, mostTerms, mostFills, mostCodes};
 ghost use Rattle.prelude.specs.Lists.{at, firsts, fronted};
 ghost use Rattle.logic.specs.Sheet.{Sheet};
 ghost use Rattle.layout.specs.Packed.{view};
 ghost use Rattle.tables.specs.Grid.{cell};
 ghost use Rattle.tables.specs.Parts.{Packs};
+ghost use Rattle.answer.specs.Answer.{fillCode};
 ghost use Rattle.writing.specs.Written.{unforcedAt, answerBytes, Writable, AnswerWritten};
 ghost use Rattle.writing.specs.Parts.{Filled};
 
@@ -37,12 +39,13 @@ pub fn write_answer(
 }
 
 // What a cell that no term reaches holds, in this row and column of a symbol's table: where the symbol takes one argument, of the sort of its result, the
-// argument's own code, and else 0. This is the one place that gives such a cell its code.
+// argument's own code, and else what the symbol is filled with. This is the one place that gives such a cell its code.
 fn unforced(p: Parsed, codes: [u8; BYTE_VALUES], symbol: usize, row: usize, col: usize) -> u8
-    requires { ⌜ (symbol < mostSymbols) × (row < mostCodes) × (col < mostCodes) ⌝ }
+    requires { ⌜ (p .fills ≤ mostFills) × (symbol < mostSymbols) × (row < mostCodes) × (col < mostCodes) ⌝ }
     ensures { λ r. ⌜ ((sh : Sheet) (size : ℕ → ℕ) → Packs sh p → symbol < length (sh .symbols) → r ≡ unforcedAt sh size (at codes) symbol row col) ⌝ }
 {
     let own = row as u8;
+    let fill = fill_code(p, codes, symbol);
     let result = p.result[symbol];
     let first = p.param0[symbol];
     let second = p.param1[symbol];
@@ -50,6 +53,24 @@ fn unforced(p: Parsed, codes: [u8; BYTE_VALUES], symbol: usize, row: usize, col:
         if first == result {
             return own;
         }
+    }
+    fill
+}
+
+// The code of the term by which a symbol is filled, 0 where it has no fill.
+fn fill_code(p: Parsed, codes: [u8; BYTE_VALUES], symbol: usize) -> u8
+    requires { ⌜ p .fills ≤ mostFills ⌝ }
+    ensures { λ r. ⌜ ((sh : Sheet) → Packs sh p → r ≡ Option·getD (fillCode (at codes) symbol (sh .fills)) 0) ⌝ }
+{
+    let mut k: usize = 0;
+    while k < p.fills {
+        if wide(p.filled[k]) == symbol {
+            let term = p.filler[k];
+            let i = wide(term);
+            let code = codes[i];
+            return code;
+        }
+        k += 1;
     }
     0u8
 }
@@ -62,7 +83,7 @@ fn unforced_row(
     row: usize,
     columns: usize,
 ) -> [u8; MOST_CODES]
-    requires { ⌜ (symbol < mostSymbols) × (row < mostCodes) × (columns ≤ mostCodes) ⌝ }
+    requires { ⌜ (p .fills ≤ mostFills) × (symbol < mostSymbols) × (row < mostCodes) × (columns ≤ mostCodes) ⌝ }
     ensures { λ r. ⌜ ((sh : Sheet) (size : ℕ → ℕ) → Packs sh p → symbol < length (sh .symbols) → (col : ℕ) → col < columns → at r col ≡ unforcedAt sh size (at codes) symbol row col) ⌝ }
 {
     let mut cells = [0u8; MOST_CODES];
@@ -82,7 +103,7 @@ fn unforced_table(
     rows: usize,
     columns: usize,
 ) -> [[u8; MOST_CODES]; MOST_CODES]
-    requires { ⌜ (symbol < mostSymbols) × (rows ≤ mostCodes) × (columns ≤ mostCodes) ⌝ }
+    requires { ⌜ (p .fills ≤ mostFills) × (symbol < mostSymbols) × (rows ≤ mostCodes) × (columns ≤ mostCodes) ⌝ }
     ensures { λ r. ⌜ ((sh : Sheet) (size : ℕ → ℕ) → Packs sh p → symbol < length (sh .symbols) → (row col : ℕ) → row < rows → col < columns → cell r row col ≡ unforcedAt sh size (at codes) symbol row col) ⌝ }
 {
     let mut t = [[0u8; MOST_CODES]; MOST_CODES];
@@ -103,7 +124,7 @@ fn symbol_table(
     rows: usize,
     columns: usize,
 ) -> [[u8; MOST_CODES]; MOST_CODES]
-    requires { ⌜ (p .terms ≤ mostTerms) × ((i : ℕ) → at codes i < mostCodes) ⌝ }
+    requires { ⌜ (p .terms ≤ mostTerms) × (p .fills ≤ mostFills) × ((i : ℕ) → at codes i < mostCodes) ⌝ }
     requires { ⌜ (symbol < mostSymbols) × (rows ≤ mostCodes) × (columns ≤ mostCodes) ⌝ }
     ensures { λ r. ⌜ ((sh : Sheet) (size : ℕ → ℕ) → Packs sh p → symbol < length (sh .symbols) → Filled (view p) (at codes) symbol (unforcedAt sh size (at codes) symbol) rows columns 0 (p .terms) r) ⌝ }
 {

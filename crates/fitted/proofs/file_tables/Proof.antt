@@ -2,10 +2,13 @@
 use mathlib.Core.Path.{_≡_, sym, _∙_}
 use mathlib.Core.Bool.{false}
 use Rattle.prelude.specs.Lists.{at}
+use Rattle.layout.proofs.Pack.{contents}
 use Rattle.tables.specs.Parts.{Packs, Limited}
 use Rattle.tables.proofs.Whole.{packs-limited}
+use Rattle.answer.specs.Answer.{structureOf}
 use Rattle.fitted_sheet.specs.FittedSheet.{tooMany}
 use Rattle.fitted_sheet.specs.Kept.{fittedTo}
+use Rattle.fitted_sheet.proofs.Entries.{no-fills}
 use Rattle.fitted_sheet.proofs.Formed.{fitted-formed}
 use Rattle.assembling.specs.Parts.{SizesOf, OffsetsOf}
 use Rattle.fitted.specs.Parts.{Answered}
@@ -77,7 +80,9 @@ write-sheet-requires : tie.Need-write-sheet-requires
 write-sheet-requires c κs =
     let x = c .before in
     let m = x .before .before .before .before .before .before .before in
-    (record { sheet = fittedTo (m .pre .0 .sheet) (m .pre .0 .entry); packs = new-packs x (m .pre .0) }, m .pre .1)
+    let a = m .pre .0 in
+    let k = new-packs x a in
+    (record { sheet = fittedTo (a .sheet) (a .entry); packs = k }, contents (x .fitted-sheet .result) (fittedTo (a .sheet) (a .entry)) (k .same) .fills ∙ no-fills (a .sheet) (structureOf (a .sheet) (a .entry)), m .pre .1)
 
 same-length : tie.Need-same-length
 same-length c = search needs

@@ -74,7 +74,7 @@ payload-of-requires c κs =
 fault-requires : tie.Need-fault-requires
 fault-requires c κs = (c .before .before .before .before .before .before .pre .0, c .payload-of .ensures .1)
 
--- the causes 5 to 8
+-- the causes 5 to 8 and 16
 later-cause : (c : tie.After-fault) (k : PartRead (c .before .before .before .before .before .before .before .args .p))
     → c .fault .result ≡ cause (k .sheet) (c .before .before .before .before .before .before .before .args .kind) (payload (c .before .before .before .before .before .before .before))
 later-cause c k =

@@ -5,10 +5,10 @@ use Rattle.test_trial.proofs.main.Statement.{statement}
 use Rattle.test_trial.proofs.main.Tie as tie
 
 abbrev Inv-loop : tie.InvT-loop
-Inv-loop state₀ counts₀ k₀ state counts k = k ≤ 4000
+Inv-loop state₀ counts₀ k₀ state counts k = k ≤ 4200
 
 abbrev μ-loop : tie.MeasureT-loop
-μ-loop state₀ counts₀ k₀ state counts k = 4000 - k
+μ-loop state₀ counts₀ k₀ state counts k = 4200 - k
 
 pub main-spec : {M : Type 1} → statement M
 main-spec =

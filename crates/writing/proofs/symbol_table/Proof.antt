@@ -65,7 +65,7 @@ array-read-with-cell c = omega arith
 with-cell-requires : tie.Need-with-cell-requires Inv-loop μ-loop
 with-cell-requires c κs =
     let m = c .before .before .before .before .before .before .before .before .before .before .before .before in
-    (omega (arith, c .before .wide4 .ensures .0, m .pre .0 .1 (c .before .before .before .before .wide2 .result)), omega (arith, c .wide5 .ensures .0, m .pre .0 .1 (c .before .before .wide3 .result)))
+    (omega (arith, c .before .wide4 .ensures .0, m .pre .0 .2 (c .before .before .before .before .wide2 .result)), omega (arith, c .wide5 .ensures .0, m .pre .0 .2 (c .before .before .wide3 .result)))
 
 loop-less : tie.Need-loop-less Inv-loop μ-loop
 loop-less c = omega arith

@@ -81,7 +81,8 @@ symbol-table-requires c κs =
     let more : l .loop .f < p l .symbols = omega arith in
     let rows : c .before .before .before .width-of .result ≡ width (size l) (at (p l .param0) (l .loop .f)) = c .before .before .before .width-of .ensures .0 ∙ ap (width (size l)) (c .before .before .before .before .wide .ensures .0) in
     let columns : c .width-of2 .result ≡ width (size l) (at (p l .param1) (l .loop .f)) = c .width-of2 .ensures .0 ∙ ap (width (size l)) (c .before .wide2 .ensures .0) in
-    ((limits (p l) (size l) (code l) (m .args .out .now) (m .pre) .terms, m .pre .codes), (omega (arith, l .loop .inv), omega (arith, fit l more .0, rows), omega (arith, fit l more .1, columns)))
+    let few = limits (p l) (size l) (code l) (m .args .out .now) (m .pre) in
+    ((few .terms, few .fills, m .pre .codes), (omega (arith, l .loop .inv), omega (arith, fit l more .0, rows), omega (arith, fit l more .1, columns)))
 
 mul-start : tie.Need-mul-start Inv-loop μ-loop
 mul-start c = omega arith

@@ -28,6 +28,9 @@ literal-fault-requires-2 c κs = search needs
 total-fault-requires : tie.Need-total-fault-requires
 total-fault-requires c κs = search needs
 
+fill-fault-requires : tie.Need-fill-fault-requires
+fill-fault-requires c κs = search needs
+
 returns : tie.Need-returns
 returns c k pl wl =
     let a = c .before .before .args in
@@ -75,11 +78,18 @@ returns-6 c k pl wl =
 
 returns-7 : tie.Need-returns-7
 returns-7 c k pl wl =
+    let a = c .before .before .args in
+    c .fill-fault .ensures k
+    ∙ later-at (k .sheet) (a .kind) 7 (a .q .b0 ∷ a .q .b1 ∷ []) (payloadBytes (a .q)) (c .before .match .keys7)
+    (two-bytes (a .q) (fixed 2 (a .q .len) (sized-at (a .kind) 7 (a .q .len) (c .before .match .keys7) wl)))
+
+returns-8 : tie.Need-returns-8
+returns-8 c k pl wl =
     let a = c .before .args in
     let r = c .match .rest in
     absurd
     (placed (k .sheet) (kindOf (a .kind)) pl .known
-    (sym (no-rank (a .kind) (r .0 .0 .0 .0 .0 .1) (r .0 .0 .0 .0 .1) (r .0 .0 .0 .1) (r .0 .0 .1) (r .0 .1) (r .1))))
+    (sym (no-rank (a .kind) (r .0 .0 .0 .0 .0 .0 .1) (r .0 .0 .0 .0 .0 .1) (r .0 .0 .0 .0 .1) (r .0 .0 .0 .1) (r .0 .0 .1) (r .0 .1) (r .1))))
 
 pub fault-spec : {M : Type 1} → statement M
 fault-spec =
@@ -91,10 +101,12 @@ fault-spec =
     literal-fault-requires
     literal-fault-requires-2
     total-fault-requires
+    fill-fault-requires
     returns
     returns-2
     returns-3
     returns-4
     returns-5
     returns-6
-    returns-7)
+    returns-7
+    returns-8)

@@ -1,4 +1,4 @@
--- Kinds 1 to 6 have their ranks, and no other kind has one.
+-- Kinds 1 to 7 have their ranks, and no other kind has one.
 use Rattle.layout.proofs.Causes.{no-rank}
 use borrow.Author.Needs.{needs}
 use Rattle.layout.proofs.faults.rank_of.Statement.{statement}
@@ -23,10 +23,13 @@ returns-6 : tie.Need-returns-6
 returns-6 c = search needs
 
 returns-7 : tie.Need-returns-7
-returns-7 c =
+returns-7 c = search needs
+
+returns-8 : tie.Need-returns-8
+returns-8 c =
     let r = c .match .rest in
-    no-rank (c .before .args .kind) (r .0 .0 .0 .0 .0 .1) (r .0 .0 .0 .0 .1) (r .0 .0 .0 .1) (r .0 .0 .1) (r .0 .1) (r .1)
+    no-rank (c .before .args .kind) (r .0 .0 .0 .0 .0 .0 .1) (r .0 .0 .0 .0 .0 .1) (r .0 .0 .0 .0 .1) (r .0 .0 .0 .1) (r .0 .0 .1) (r .0 .1) (r .1)
 
 pub rank-of-spec : {M : Type 1} → statement M
 rank-of-spec =
-    tie.close (tie.spec returns returns-2 returns-3 returns-4 returns-5 returns-6 returns-7)
+    tie.close (tie.spec returns returns-2 returns-3 returns-4 returns-5 returns-6 returns-7 returns-8)

@@ -8,7 +8,7 @@ use Rattle.layout.proofs.Causes.{no-rank}
 use Rattle.layout.specs.Parts.{payloadBytes}
 use Rattle.layout.specs.Packed.{packed}
 use Rattle.layout.proofs.AtMostTwo.{argsOf, front}
-use Rattle.layout.proofs.ByKind.{fixed, two-bytes, one-byte, add-at, good-at, good-placed, field-room, name-room, name-early, term-room, term-there, literal-room, literal-room′}
+use Rattle.layout.proofs.ByKind.{fixed, two-bytes, one-byte, add-at, good-at, good-placed, field-room, name-room, name-early, term-room, term-there, literal-room, literal-room′, fill-room}
 use borrow.Author.Needs.{needs}
 use Rattle.layout.proofs.grow.added.Statement.{statement}
 use Rattle.layout.proofs.grow.added.Tie as tie
@@ -59,6 +59,14 @@ with-literal-requires-2 c κs =
 
 with-total-requires : tie.Need-with-total-requires
 with-total-requires c κs = search needs
+
+with-fill-requires : tie.Need-with-fill-requires
+with-fill-requires c κs =
+    let a = c .before .args in
+    let k = c .before .pre .0 in
+    let h = contents (a .p) (k .sheet) (k .same) in
+    let z = fill-room (k .sheet) (a .q) (good-at (k .sheet) (a .kind) 7 (a .q) (c .match .keys7) (c .before .pre .1 .1 k)) in
+    omega arith
 
 returns : tie.Need-returns
 returns c k =
@@ -122,11 +130,21 @@ returns-6 c k =
 
 returns-7 : tie.Need-returns-7
 returns-7 c k =
+    let a = c .before .before .args in
+    c .with-fill .ensures (k .sheet) (k .same)
+    ∙ ap packed
+    (add-at (k .sheet) (a .kind) 7 (a .q .b0 ∷ a .q .b1 ∷ []) (payloadBytes (a .q)) (c .before .match .keys7)
+    (two-bytes (a .q)
+    (fixed 2 (a .q .len)
+    ((good-at (k .sheet) (a .kind) 7 (a .q) (c .before .match .keys7) (c .before .before .pre .1 .1 k)) .sized))))
+
+returns-8 : tie.Need-returns-8
+returns-8 c k =
     let a = c .before .args in
     let r = c .match .rest in
     absurd
     (good-placed (k .sheet) (a .kind) (a .q) (c .before .pre .1 .1 k) .known
-    (sym (no-rank (a .kind) (r .0 .0 .0 .0 .0 .1) (r .0 .0 .0 .0 .1) (r .0 .0 .0 .1) (r .0 .0 .1) (r .0 .1) (r .1))))
+    (sym (no-rank (a .kind) (r .0 .0 .0 .0 .0 .0 .1) (r .0 .0 .0 .0 .0 .1) (r .0 .0 .0 .0 .1) (r .0 .0 .0 .1) (r .0 .0 .1) (r .0 .1) (r .1))))
 
 pub added-spec : {M : Type 1} → statement M
 added-spec =
@@ -138,10 +156,12 @@ added-spec =
     with-literal-requires
     with-literal-requires-2
     with-total-requires
+    with-fill-requires
     returns
     returns-2
     returns-3
     returns-4
     returns-5
     returns-6
-    returns-7)
+    returns-7
+    returns-8)

@@ -5,10 +5,10 @@ use Rattle.test_listing.proofs.unforced.reached.Statement.{statement}
 use Rattle.test_listing.proofs.unforced.reached.Tie as tie
 
 abbrev Inv-loop : tie.InvT-loop
-Inv-loop p key symbol code n t₀ t = t ≤ n
+Inv-loop p s key place n t₀ t = t ≤ n
 
 abbrev μ-loop : tie.MeasureT-loop
-μ-loop p key symbol code n t₀ t = n - t
+μ-loop p s key place n t₀ t = n - t
 
 pub reached-spec : {M : Type 1} → statement M
 reached-spec =
@@ -18,10 +18,6 @@ reached-spec =
     μ-loop
     (λ c κs. search needs)
     (λ c. search needs)
-    (λ c κs. search needs)
-    (λ c κs. search needs)
-    (λ c κs. search needs)
-    (λ c κs. search needs)
     (λ c κs. search needs)
     (λ c. search needs)
     (λ c. search needs)
