@@ -3,8 +3,8 @@
  * Each buffer is a pointer and a length in bytes; a NULL pointer goes with length 0. Buffers do not overlap.
  * A refusal has its number in the upper 16 bits of the result and its place in the lower 16; every buffer is then as it was.
  *
- * Stack: the deepest call of find that was measured used 735,000 bytes. The compiled frames come to 890,000 where every recursion goes
- * as deep as it can (bench/stack.py prints both): give a thread that calls find 2 MB. A call of judge used 13,000 bytes. */
+ * Stack: the deepest call of find that was measured used 756,000 bytes. The compiled frames come to 926,000 where every recursion goes
+ * as deep as it can (bench/stack.py prints both): give a thread that calls find 2 MB. A call of judge used 17,000 bytes. */
 #ifndef DEODARLOO_H
 #define DEODARLOO_H
 

@@ -235,20 +235,22 @@ fn is_ill_sorted(p: Parsed, q: Payload) -> bool
     ensures { λ r. ⌜ ((k : PartRead p) → r ≡ illSorted (k .sheet) expression (payloadBytes q)) ⌝ }
 {
     let f = wide(q.b0);
-    if sort_of(p, q.b1) != p.param0[f] {
+    let terms = p.terms;
+    let sort = p.sort;
+    if sort_of(terms, sort, q.b1) != p.param0[f] {
         return true;
     }
-    sort_of(p, q.b2) != p.param1[f]
+    sort_of(terms, sort, q.b2) != p.param1[f]
 }
 
-// The sort of an argument, MISSING where there is none.
-fn sort_of(p: Parsed, a: u8) -> u8
-    requires { ⌜ p .terms ≤ mostTerms ⌝ }
-    ensures { λ r. ⌜ r ≡ cond (ltb a (p .terms)) (getD (p .sort) a 0) missing ⌝ }
+// The sort of an argument among the sorts of so many terms, MISSING where there is none.
+fn sort_of(terms: usize, sort: [u8; MOST_TERMS], a: u8) -> u8
+    requires { ⌜ terms ≤ mostTerms ⌝ }
+    ensures { λ r. ⌜ r ≡ cond (ltb a terms) (getD sort a 0) missing ⌝ }
 {
     let i = wide(a);
-    if i < p.terms {
-        return p.sort[i];
+    if i < terms {
+        return sort[i];
     }
     MISSING
 }

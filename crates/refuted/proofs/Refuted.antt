@@ -10,7 +10,7 @@ use mathlib.Core.Option.{some}
 use lib.ListN.{length}
 use lib.Dec.{lit<, lit≤}
 use lib.Seq.{getD-take}
-use Rattle.logic.specs.Sheet.{Sheet, symbolAt, termAt, fillAt}
+use Rattle.logic.specs.Sheet.{Sheet, symbolAt, termAt}
 use Rattle.logic.specs.WellFormed.{WellFormed}
 use Rattle.logic.specs.Structure.{InSorts}
 use Rattle.logic.proofs.Meaning.{of-one-argument}

@@ -22,7 +22,7 @@ use Rattle.tables.proofs.Packing.{one-param, result-packed, param0-packed, para
 use Rattle.answer.specs.Answer.{Entry, entryOf, fillCode, unforced}
 use Rattle.answer.specs.Demand.{ToItself}
 use Rattle.answer.proofs.Demand.{unforced-kept, unforced-other, fill-code-same}
-use Rattle.writing.specs.Written.{cellCodes, unforcedAt}
+use Rattle.writing.specs.Written.{filledWith, cellCodes, unforcedAt}
 
 module _ (sh : Sheet) (p : Parsed) (k : Packs sh p) (size c : ℕ → ℕ) (f row col : ℕ) (h : f < length (sh .symbols)) where
   abbrev e : Entry
@@ -37,7 +37,7 @@ module _ (sh : Sheet) (p : Parsed) (k : Packs sh p) (size c : ℕ → ℕ) (f ro
       (ap (λ (ss : List ℕ). unforced sh e f (take (length ss) (row ∷ col ∷ []))) itself
       ∙ unforced-kept sh e f row itself)
 
-  pub filled-here : (at (p .param1) f ≡ missing → at (p .param0) f ≡ at (p .result) f → ⊥) → Option·getD (fillCode c f (sh .fills)) 0 ≡ unforcedAt sh size c f row col
+  pub filled-here : (at (p .param1) f ≡ missing → at (p .param0) f ≡ at (p .result) f → ⊥) → filledWith sh c f ≡ unforcedAt sh size c f row col
   filled-here other =
       ap (λ (o : Option ℕ). Option·getD o 0)
       (fill-code-same c (at (e .codes)) f (sh .fills) (λ j l. sym (at-firsts (length (sh .terms)) c (fillAt sh j .term) (k .formed .filler j l))))

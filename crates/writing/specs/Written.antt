@@ -2,6 +2,7 @@
 use Prim.Native.Nat.{ℕ, _≤_, _<_}
 use mathlib.Core.Path.{_≡_}
 use mathlib.Core.List.{List, [], _∷_}
+use mathlib.Core.Option.{Option·getD}
 use lib.ListN.{length, take}
 use Rattle.prelude.specs.Limits.{mostCodes}
 use Rattle.prelude.specs.Lists.{fronted}
@@ -9,7 +10,11 @@ use Rattle.logic.specs.Sheet.{Sheet, symbolAt}
 use Rattle.layout.specs.declared.Parsed.{Parsed}
 use Rattle.tables.specs.Layout.{extent, encoded}
 use Rattle.tables.specs.Parts.{Packs}
-use Rattle.answer.specs.Answer.{entryOf, sum, structureOf, unforced}
+use Rattle.answer.specs.Answer.{entryOf, sum, structureOf, fillCode, unforced}
+
+-- what symbol f is filled with where terms have the codes c: the code of its fill's term, 0 where it has no fill
+abbrev pub filledWith : Sheet → (ℕ → ℕ) → ℕ → ℕ
+filledWith sh c f = Option·getD (fillCode c f (sh .fills)) 0
 
 -- the argument codes of a cell of symbol f, from its row and its column
 abbrev pub cellCodes : Sheet → ℕ → ℕ → ℕ → List ℕ

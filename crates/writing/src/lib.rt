@@ -6,7 +6,6 @@ use prelude::MOST_CODES;
 use prelude::MOST_SORTS;
 use prelude::wide;
 ghost use mathlib.Core.Path.{_≡_};
-ghost use mathlib.Core.Option.{Option·getD};
 ghost use Prim.Native.Nat.{ℕ, _≤_, _<_};
 ghost use lib.ListN.{length, take};
 ghost use Rattle.prelude.specs.Limits.{mostSymbols, mostTerms, mostFills, mostCodes};
@@ -15,8 +14,7 @@ ghost use Rattle.logic.specs.Sheet.{Sheet};
 ghost use Rattle.layout.specs.Packed.{view};
 ghost use Rattle.tables.specs.Grid.{cell};
 ghost use Rattle.tables.specs.Parts.{Packs};
-ghost use Rattle.answer.specs.Answer.{fillCode};
-ghost use Rattle.writing.specs.Written.{unforcedAt, answerBytes, Writable, AnswerWritten};
+ghost use Rattle.writing.specs.Written.{filledWith, unforcedAt, answerBytes, Writable, AnswerWritten};
 ghost use Rattle.writing.specs.Parts.{Filled};
 
 // Writes an answer in front of both buffers, and gives the sum of its sizes.
@@ -40,12 +38,11 @@ pub fn write_answer(
 
 // What a cell that no term reaches holds, in this row and column of a symbol's table: where the symbol takes one argument, of the sort of its result, the
 // argument's own code, and else what the symbol is filled with. This is the one place that gives such a cell its code.
-fn unforced(p: Parsed, codes: [u8; BYTE_VALUES], symbol: usize, row: usize, col: usize) -> u8
-    requires { ⌜ (p .fills ≤ mostFills) × (symbol < mostSymbols) × (row < mostCodes) × (col < mostCodes) ⌝ }
-    ensures { λ r. ⌜ ((sh : Sheet) (size : ℕ → ℕ) → Packs sh p → symbol < length (sh .symbols) → r ≡ unforcedAt sh size (at codes) symbol row col) ⌝ }
+fn unforced(p: Parsed, fill: u8, symbol: usize, row: usize, col: usize) -> u8
+    requires { ⌜ (symbol < mostSymbols) × (row < mostCodes) × (col < mostCodes) ⌝ }
+    ensures { λ r. ⌜ ((sh : Sheet) (size c : ℕ → ℕ) → Packs sh p → symbol < length (sh .symbols) → fill ≡ filledWith sh c symbol → r ≡ unforcedAt sh size c symbol row col) ⌝ }
 {
     let own = row as u8;
-    let fill = fill_code(p, codes, symbol);
     let result = p.result[symbol];
     let first = p.param0[symbol];
     let second = p.param1[symbol];
@@ -57,10 +54,10 @@ fn unforced(p: Parsed, codes: [u8; BYTE_VALUES], symbol: usize, row: usize, col:
     fill
 }
 
-// The code of the term by which a symbol is filled, 0 where it has no fill.
+// What a symbol is filled with: the code of its fill's term, 0 where it has no fill.
 fn fill_code(p: Parsed, codes: [u8; BYTE_VALUES], symbol: usize) -> u8
     requires { ⌜ p .fills ≤ mostFills ⌝ }
-    ensures { λ r. ⌜ ((sh : Sheet) → Packs sh p → r ≡ Option·getD (fillCode (at codes) symbol (sh .fills)) 0) ⌝ }
+    ensures { λ r. ⌜ ((sh : Sheet) → Packs sh p → r ≡ filledWith sh (at codes) symbol) ⌝ }
 {
     let mut k: usize = 0;
     while k < p.fills {
@@ -76,20 +73,14 @@ fn fill_code(p: Parsed, codes: [u8; BYTE_VALUES], symbol: usize) -> u8
 }
 
 // A row of a symbol's table before any term is put in.
-fn unforced_row(
-    p: Parsed,
-    codes: [u8; BYTE_VALUES],
-    symbol: usize,
-    row: usize,
-    columns: usize,
-) -> [u8; MOST_CODES]
-    requires { ⌜ (p .fills ≤ mostFills) × (symbol < mostSymbols) × (row < mostCodes) × (columns ≤ mostCodes) ⌝ }
-    ensures { λ r. ⌜ ((sh : Sheet) (size : ℕ → ℕ) → Packs sh p → symbol < length (sh .symbols) → (col : ℕ) → col < columns → at r col ≡ unforcedAt sh size (at codes) symbol row col) ⌝ }
+fn unforced_row(p: Parsed, fill: u8, symbol: usize, row: usize, columns: usize) -> [u8; MOST_CODES]
+    requires { ⌜ (symbol < mostSymbols) × (row < mostCodes) × (columns ≤ mostCodes) ⌝ }
+    ensures { λ r. ⌜ ((sh : Sheet) (size c : ℕ → ℕ) → Packs sh p → symbol < length (sh .symbols) → fill ≡ filledWith sh c symbol → (col : ℕ) → col < columns → at r col ≡ unforcedAt sh size c symbol row col) ⌝ }
 {
     let mut cells = [0u8; MOST_CODES];
     let mut col: usize = 0;
     while col < columns {
-        cells[col] = unforced(p, codes, symbol, row, col);
+        cells[col] = unforced(p, fill, symbol, row, col);
         col += 1;
     }
     cells
@@ -98,18 +89,18 @@ fn unforced_row(
 // A symbol's table before any term is put in.
 fn unforced_table(
     p: Parsed,
-    codes: [u8; BYTE_VALUES],
+    fill: u8,
     symbol: usize,
     rows: usize,
     columns: usize,
 ) -> [[u8; MOST_CODES]; MOST_CODES]
-    requires { ⌜ (p .fills ≤ mostFills) × (symbol < mostSymbols) × (rows ≤ mostCodes) × (columns ≤ mostCodes) ⌝ }
-    ensures { λ r. ⌜ ((sh : Sheet) (size : ℕ → ℕ) → Packs sh p → symbol < length (sh .symbols) → (row col : ℕ) → row < rows → col < columns → cell r row col ≡ unforcedAt sh size (at codes) symbol row col) ⌝ }
+    requires { ⌜ (symbol < mostSymbols) × (rows ≤ mostCodes) × (columns ≤ mostCodes) ⌝ }
+    ensures { λ r. ⌜ ((sh : Sheet) (size c : ℕ → ℕ) → Packs sh p → symbol < length (sh .symbols) → fill ≡ filledWith sh c symbol → (row col : ℕ) → row < rows → col < columns → cell r row col ≡ unforcedAt sh size c symbol row col) ⌝ }
 {
     let mut t = [[0u8; MOST_CODES]; MOST_CODES];
     let mut row: usize = 0;
     while row < rows {
-        let cells = unforced_row(p, codes, symbol, row, columns);
+        let cells = unforced_row(p, fill, symbol, row, columns);
         t[row] = cells;
         row += 1;
     }
@@ -128,7 +119,8 @@ fn symbol_table(
     requires { ⌜ (symbol < mostSymbols) × (rows ≤ mostCodes) × (columns ≤ mostCodes) ⌝ }
     ensures { λ r. ⌜ ((sh : Sheet) (size : ℕ → ℕ) → Packs sh p → symbol < length (sh .symbols) → Filled (view p) (at codes) symbol (unforcedAt sh size (at codes) symbol) rows columns 0 (p .terms) r) ⌝ }
 {
-    let mut t = unforced_table(p, codes, symbol, rows, columns);
+    let fill = fill_code(p, codes, symbol);
+    let mut t = unforced_table(p, fill, symbol, rows, columns);
     let mut i: usize = p.terms;
     while 0 < i {
         i -= 1;

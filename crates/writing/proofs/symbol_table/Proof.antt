@@ -13,17 +13,20 @@ use Rattle.writing.proofs.symbol_table.Statement.{statement}
 use Rattle.writing.proofs.symbol_table.Tie as tie
 
 abbrev Inv-loop : tie.InvT-loop
-Inv-loop symbol rows columns p codes t₀ i₀ t i = (i ≤ p .terms) × FilledFrom (view p) (at codes) symbol (cell t₀) 16 16 i t
+Inv-loop symbol rows columns p codes fill t₀ i₀ t i = (i ≤ p .terms) × FilledFrom (view p) (at codes) symbol (cell t₀) 16 16 i t
 
 abbrev μ-loop : tie.MeasureT-loop
-μ-loop symbol rows columns p codes t₀ i₀ t i = i
+μ-loop symbol rows columns p codes fill t₀ i₀ t i = i
+
+fill-code-requires : tie.Need-fill-code-requires Inv-loop μ-loop
+fill-code-requires c κs = search needs
 
 unforced-table-requires : tie.Need-unforced-table-requires Inv-loop μ-loop
 unforced-table-requires c κs = search needs
 
 loop-holds : tie.Need-loop-holds Inv-loop μ-loop
 loop-holds c =
-    let m = c .before in
+    let m = c .before .before in
     (le-refl _, from-none (view (m .args .t1)) (at (m .args .t2)) (m .args .symbol) 16 16 (c .unforced-table .result))
 
 sub-i : tie.Need-sub-i Inv-loop μ-loop
@@ -64,7 +67,7 @@ array-read-with-cell c = omega arith
 
 with-cell-requires : tie.Need-with-cell-requires Inv-loop μ-loop
 with-cell-requires c κs =
-    let m = c .before .before .before .before .before .before .before .before .before .before .before .before in
+    let m = c .before .before .before .before .before .before .before .before .before .before .before .before .before in
     (omega (arith, c .before .wide4 .ensures .0, m .pre .0 .2 (c .before .before .before .before .wide2 .result)), omega (arith, c .wide5 .ensures .0, m .pre .0 .2 (c .before .before .wide3 .result)))
 
 loop-less : tie.Need-loop-less Inv-loop μ-loop
@@ -74,7 +77,7 @@ loop-again : tie.Need-loop-again Inv-loop μ-loop
 loop-again c =
     let tested = c .before .before .before .before .before .before .before in
     let l = tested .before .before .before .before in
-    let m = l .before .before in
+    let m = l .before .before .before in
     let arg0 = c .before .before .before .before .before .wide2 in
     let arg1 = c .before .before .before .wide3 in
     let row = c .before .before .wide4 in
@@ -95,7 +98,7 @@ loop-less-2 c = omega arith
 loop-again-2 : tie.Need-loop-again-2 Inv-loop μ-loop
 loop-again-2 c =
     let l = c .before .before .before .before in
-    let m = l .before .before in (
+    let m = l .before .before .before in (
       omega arith,
       from-skip (view (m .args .t1)) (at (m .args .t2)) (m .args .symbol) (cell (l .before .unforced-table .result)) 16 16 (l .loop .i) (l .loop .t) (c .before .before .before .loop-test .taken) (l .loop .inv .0) (l .loop .inv .1)
           (λ e. c .if1 .left (c .before .wide .ensures .0 ∙ e)),
@@ -104,11 +107,11 @@ loop-again-2 c =
 returns : tie.Need-returns Inv-loop μ-loop
 returns c sh size k h =
     let l = c .before in
-    let m = l .before .before in
+    let m = l .before .before .before in
     let P = view (m .args .t1) in
     let start = l .before .unforced-table in
     filled-table P (at (m .args .t2)) (m .args .symbol) (P .terms) (cell (start .result)) (unforcedAt sh size (at (m .args .t2)) (m .args .symbol)) (m .args .rows) (m .args .columns) (l .loop .t)
-    (omega arith) (omega arith) (start .ensures sh size k h)
+    (omega arith) (omega arith) (start .ensures sh size (at (m .args .t2)) k h (l .before .before .fill-code .ensures sh k))
     (from-all P (at (m .args .t2)) (m .args .symbol) (cell (start .result)) 16 16 (l .loop .i) (l .loop .t) (omega arith) (l .loop .inv .1))
 
 pub symbol-table-spec : {M : Type 1} → statement M
@@ -117,6 +120,7 @@ symbol-table-spec =
     (tie.spec
     Inv-loop
     μ-loop
+    fill-code-requires
     unforced-table-requires
     loop-holds
     sub-i

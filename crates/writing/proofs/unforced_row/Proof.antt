@@ -7,22 +7,22 @@ use Rattle.logic.specs.Sheet.{Sheet}
 use Rattle.prelude.specs.Lists.{at}
 use Rattle.prelude.proofs.Lists.{filled-more}
 use Rattle.tables.specs.Parts.{Packs}
-use Rattle.writing.specs.Written.{unforcedAt}
+use Rattle.writing.specs.Written.{filledWith, unforcedAt}
 use borrow.Author.Needs.{needs}
 use Rattle.writing.proofs.unforced_row.Statement.{statement}
 use Rattle.writing.proofs.unforced_row.Tie as tie
 
 abbrev Inv-loop : tie.InvT-loop
-Inv-loop p codes symbol row columns cells₀ col₀ cells col =
+Inv-loop p fill symbol row columns cells₀ col₀ cells col =
     (col ≤ columns)
     × (length cells ≡ 16)
-    × ((sh : Sheet) (size : ℕ → ℕ) → Packs sh p → symbol < length (sh .symbols) → (j : ℕ) → j < col → at cells j ≡ unforcedAt sh size (at codes) symbol row j)
+    × ((sh : Sheet) (size c : ℕ → ℕ) → Packs sh p → symbol < length (sh .symbols) → fill ≡ filledWith sh c symbol → (j : ℕ) → j < col → at cells j ≡ unforcedAt sh size c symbol row j)
 
 abbrev μ-loop : tie.MeasureT-loop
-μ-loop p codes symbol row columns cells₀ col₀ cells col = columns - col
+μ-loop p fill symbol row columns cells₀ col₀ cells col = columns - col
 
 loop-holds : tie.Need-loop-holds Inv-loop μ-loop
-loop-holds c = (omega arith, refl, λ sh size k h j l. absurd (omega arith))
+loop-holds c = (omega arith, refl, λ sh size d k h e j l. absurd (omega arith))
 
 unforced-requires : tie.Need-unforced-requires Inv-loop μ-loop
 unforced-requires c κs = search needs
@@ -42,13 +42,13 @@ loop-again c =
     let l = c .before .before .loop in (
       omega arith,
       simp length-set (l .inv .1),
-      λ sh size k h.
-          filled-more (unforcedAt sh size (at (m .args .codes)) (m .args .symbol) (m .args .row)) (l .cells) (l .col) (c .unforced .result) (omega arith)
-          (c .unforced .ensures sh size k h) (l .inv .2 sh size k h),
+      λ sh size d k h e.
+          filled-more (unforcedAt sh size d (m .args .symbol) (m .args .row)) (l .cells) (l .col) (c .unforced .result) (omega arith)
+          (c .unforced .ensures sh size d k h e) (l .inv .2 sh size d k h e),
     )
 
 returns : tie.Need-returns Inv-loop μ-loop
-returns c sh size k h col b = c .before .loop .inv .2 sh size k h col (omega arith)
+returns c sh size d k h e col b = c .before .loop .inv .2 sh size d k h e col (omega arith)
 
 pub unforced-row-spec : {M : Type 1} → statement M
 unforced-row-spec =

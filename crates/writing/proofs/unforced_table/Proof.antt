@@ -4,26 +4,25 @@ use mathlib.Core.Path.{_≡_, refl}
 use lib.ListN.{length, length-set}
 use native.Mathlib.Omega.{arith}
 use Rattle.logic.specs.Sheet.{Sheet}
-use Rattle.prelude.specs.Lists.{at}
 use Rattle.tables.specs.Grid.{cell}
 use Rattle.tables.specs.Parts.{Packs}
-use Rattle.writing.specs.Written.{unforcedAt}
+use Rattle.writing.specs.Written.{filledWith, unforcedAt}
 use Rattle.writing.proofs.Filling.{rows-more}
 use borrow.Author.Needs.{needs}
 use Rattle.writing.proofs.unforced_table.Statement.{statement}
 use Rattle.writing.proofs.unforced_table.Tie as tie
 
 abbrev Inv-loop : tie.InvT-loop
-Inv-loop p codes symbol rows columns t₀ row₀ t row =
+Inv-loop p fill symbol rows columns t₀ row₀ t row =
     (row ≤ rows)
     × (length t ≡ 16)
-    × ((sh : Sheet) (size : ℕ → ℕ) → Packs sh p → symbol < length (sh .symbols) → (i j : ℕ) → i < row → j < columns → cell t i j ≡ unforcedAt sh size (at codes) symbol i j)
+    × ((sh : Sheet) (size c : ℕ → ℕ) → Packs sh p → symbol < length (sh .symbols) → fill ≡ filledWith sh c symbol → (i j : ℕ) → i < row → j < columns → cell t i j ≡ unforcedAt sh size c symbol i j)
 
 abbrev μ-loop : tie.MeasureT-loop
-μ-loop p codes symbol rows columns t₀ row₀ t row = rows - row
+μ-loop p fill symbol rows columns t₀ row₀ t row = rows - row
 
 loop-holds : tie.Need-loop-holds Inv-loop μ-loop
-loop-holds c = (omega arith, refl, λ sh size k h i j l. absurd (omega arith))
+loop-holds c = (omega arith, refl, λ sh size d k h e i j l. absurd (omega arith))
 
 unforced-row-requires : tie.Need-unforced-row-requires Inv-loop μ-loop
 unforced-row-requires c κs = search needs
@@ -46,13 +45,13 @@ loop-again c =
     let l = c .before .before .loop in (
       omega arith,
       simp length-set (l .inv .1),
-      λ sh size k h.
-          rows-more (unforcedAt sh size (at (m .args .codes)) (m .args .symbol)) (l .t) (l .row) (m .args .columns) (c .unforced-row .result) (omega arith)
-          (c .unforced-row .ensures sh size k h) (l .inv .2 sh size k h),
+      λ sh size d k h e.
+          rows-more (unforcedAt sh size d (m .args .symbol)) (l .t) (l .row) (m .args .columns) (c .unforced-row .result) (omega arith)
+          (c .unforced-row .ensures sh size d k h e) (l .inv .2 sh size d k h e),
     )
 
 returns : tie.Need-returns Inv-loop μ-loop
-returns c sh size k h row col b = c .before .loop .inv .2 sh size k h row col (omega arith)
+returns c sh size d k h e row col b = c .before .loop .inv .2 sh size d k h e row col (omega arith)
 
 pub unforced-table-spec : {M : Type 1} → statement M
 unforced-table-spec =

@@ -1,4 +1,7 @@
 -- Kinds 1 to 7 have their ranks, and no other kind has one.
+use Prim.Native.Nat.{ℕ}
+use mathlib.Core.Path.{ap, sym}
+use Rattle.layout.specs.Layout.{kindOf, rank}
 use Rattle.layout.proofs.Causes.{no-rank}
 use borrow.Author.Needs.{needs}
 use Rattle.layout.proofs.faults.rank_of.Statement.{statement}
@@ -23,7 +26,7 @@ returns-6 : tie.Need-returns-6
 returns-6 c = search needs
 
 returns-7 : tie.Need-returns-7
-returns-7 c = search needs
+returns-7 c = ap (λ (k : ℕ). rank (kindOf k)) (sym (c .match .keys7))
 
 returns-8 : tie.Need-returns-8
 returns-8 c =
