@@ -10,7 +10,7 @@ use Rattle.logic.specs.Sheet.{Sheet, termAt, withoutFills}
 use Rattle.answer.specs.Answer.{Entry, answer, structureOf}
 use Rattle.answer.specs.Demand.{ToItself, Unfilled}
 
--- what a cell holds in the answer with an entry, to the sheet and to the sheet without its fills
+-- a cell holds the same in the answer with an entry, whether to the sheet or to the sheet without its fills
 abbrev pub SameCell : Sheet → Entry → ℕ → List ℕ → Type 0
 SameCell sh e f xs = structureOf sh e .table f xs ≡ structureOf (withoutFills sh) e .table f xs
 

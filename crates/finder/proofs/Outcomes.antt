@@ -21,7 +21,7 @@ use Rattle.finder.specs.Find.{Outcome, turnedDown, answered, ceilings, s
 abbrev branch : Sheet → Bool → Outcome
 branch sh b = elim b [ true ↦ turnedDown 10 0 | false ↦ answering sh (answer sh) ]
 
--- causes 1 to 9
+-- a sheet that is refused
 pub outcome-refused : (s : List ℕ) (n i nc nt : ℕ) → reading s ≡ refused n i → outcome s nc nt ≡ turnedDown n i
 unfolding outcome
 outcome-refused s n i nc nt q = ap (λ (r : Reading). consider r nc nt) q

@@ -35,7 +35,7 @@ abbrev pub answering : Sheet → Option Entry → Outcome
 answering sh none = turnedDown 11 0
 answering sh (some e) = answered sh e
 
--- causes 1 to 9 as the sheet is read, then 10, then 11
+-- causes 1 to 9 and 16 as the sheet is read, then 10, then 11
 abbrev pub consider : Reading → ℕ → ℕ → Outcome
 consider (refused n i) codeBytes tableBytes = turnedDown n i
 consider (accepted sh) codeBytes tableBytes =

@@ -17,7 +17,7 @@ use Rattle.fitted.specs.Parts.{FilesAnswer}
 use Rattle.fitted.specs.declared.Fitting.{Fitting}
 use Rattle.fitted.specs.declared.Fitting.the-variants.{Written, Refused}
 
--- causes 1 to 9
+-- a sheet that is refused
 pub outcome-refused : (s : List ℕ) (n i room : ℕ) → reading s ≡ refused n i → outcome s room ≡ turnedDown n i
 unfolding outcome
 outcome-refused s n i room q = ap (λ (r : Reading). consider r room) q

@@ -30,7 +30,7 @@ abbrev pub filing : Sheet → Option Entry → Filing
 filing sh none = turnedDown 11 0
 filing sh (some e) = within (fittedSheet sh (structureOf sh e))
 
--- Causes 1 to 9 as the sheet is read, then 10: the buffer is shorter than the longest sheet; then 11 and 14.
+-- Causes 1 to 9 and 16 as the sheet is read, then 10: the buffer is shorter than the longest sheet without fills; then 11 and 14.
 abbrev pub consider : Reading → ℕ → Filing
 consider (refused n i) room = turnedDown n i
 consider (accepted sh) room = elim (ltb room mostWrittenBytes) [ true ↦ turnedDown 10 0 | false ↦ filing sh (answer sh) ]

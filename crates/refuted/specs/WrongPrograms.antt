@@ -1,6 +1,6 @@
 -- The interface: the wrong programs of docs/CONTRACTS.md, "Contracts owed", c, in that order, and those of the requests: about a sheet of zero bytes, about
--- group, about the cells that no expression reaches, and about fills. A program is what it gives back, and leaves in the buffers, for every call; to meet a contract is to do
--- so at every call. `refuted` of proofs/Refuted.antt: none of these meets the contract of its question.
+-- group, about the cells that no expression reaches, and about fills. A program is what it gives back, and leaves in the buffers, for every call; to meet a
+-- contract is to do so at every call. `refuted` of proofs/Refuted.antt: none of these meets the contract of its question.
 use Prim.Native.Nat.{ℕ, _≤_, _<_}
 use mathlib.Core.Path.{_≡_}
 use mathlib.Core.Bool.{true}
@@ -44,7 +44,7 @@ pub record FindProgram : Type 0 where
 abbrev pub MeetsFind : FindProgram → Type 0
 MeetsFind p = (s cs ts : List ℕ) → Finds s cs ts (p .codes s cs ts) (p .tables s cs ts) (p .result s cs ts)
 
--- a call that none of the causes 1 to 10 stops: the sheet is accepted, and the buffers suffice
+-- a call that no cause before 11 stops: the sheet is accepted, and the buffers suffice
 pub record LetThrough (s cs ts : List ℕ) : Type 0 where
   pub sheet : Sheet
   pub reads : reading s ≡ accepted sheet

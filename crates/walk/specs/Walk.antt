@@ -50,7 +50,7 @@ through sh t s c fs =
       | true ↦ elim (walkable sh t s c fs) [ false ↦ turnedDown 15 0 | true ↦ walked (walk (decoded sh t) c fs) ]
     ]
 
--- Causes 1 to 9 as the sheet is read, then 10: the start is past the trail's end, or fewer bytes than events follow it; then 12 and 15.
+-- Causes 1 to 9 and 16 as the sheet is read, then 10: the start is past the trail's end, or fewer bytes than events follow it; then 12 and 15.
 abbrev pub consider : Reading → List ℕ → ℕ → ℕ → List ℕ → ℕ → ℕ → Outcome
 consider (refused n i) t s c fs room start = turnedDown n i
 consider (accepted sh) t s c fs room start = elim (ltb room (start + length fs)) [ true ↦ turnedDown 10 0 | false ↦ through sh t s c fs ]
