@@ -70,9 +70,15 @@ static void refused(const char *name, const uint8_t *sheet, size_t length, uint3
 {
     fill(pattern);
     expect(find(sheet, length, codes, MOST_CODES, tables, MOST_TABLES) == refusal, "find refuses the sheet again", name);
-    expect(find(sheet, length, NULL, 0, NULL, 0) == refusal, "1 to 9 come before 10", name);
+    expect(find(sheet, length, NULL, 0, NULL, 0) == refusal, "1 to 9 and 16 come before 10", name);
     expect(judge(sheet, length, tables, MOST_TABLES) == refusal, "judge refuses the sheet too", name);
-    expect(untouched(pattern), "refusals 1 to 9 leave the buffers", name);
+    expect(untouched(pattern), "refusals 1 to 9 and 16 leave the buffers", name);
+}
+
+/* the numbers of refusals that lie in the sheet's own bytes */
+static int in_sheet(uint32_t number)
+{
+    return (number >= 1 && number <= 9) || number == 16;
 }
 
 /* an accepted sheet: the answer or 11, buffers one byte short, and the judge on what was found */
@@ -130,7 +136,7 @@ int main(int count, char **words)
             size_t length = fread(sheet, 1, sizeof sheet, file);
             fclose(file);
             uint32_t refusal = find(sheet, length, codes, MOST_CODES, tables, MOST_TABLES);
-            if (refusal >> 16 && refusal >> 16 < 10)
+            if (in_sheet(refusal >> 16))
                 refused(words[i], sheet, length, refusal, pattern);
             else
                 accepted(words[i], sheet, length, pattern);
