@@ -16,7 +16,7 @@ import sheets  # noqa: E402
 OUT = pathlib.Path("target/bench")
 # The deepest chain of calls, and how often each function stands in it at most. A level of descend decides one of 128 terms more, a level of hunt raises
 # the sum of the lowest sizes of 8 sorts, which begins at 8 and ends at 128, and pairs looks at three levels of arguments more.
-CHAIN = {"find": 1, "least_sizes::hunt": 121, "least_sizes::look": 1, "solve::descend": 129, "propagate::propagate": 1, "pigeonhole::pairs": 4, "pigeonhole::values": 1}
+CHAIN = {"find": 1, "sizes::sizes_parsed": 1, "least_sizes::hunt": 121, "least_sizes::look": 1, "solve::descend": 129, "propagate::propagate": 1, "pigeonhole::pairs": 4, "pigeonhole::values": 1}
 
 
 def build():

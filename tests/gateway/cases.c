@@ -1,5 +1,6 @@
-/* Asks the exported functions every find and judge question of the case files named on the command line (docs/FORMAT.md, "Asking line by line" and "The
- * gateway"), with guard bytes around both buffers and two fill patterns, and says where the answer is another or a byte outside it changed. */
+/* Asks the exported functions every find, sizes, findat and judge question of the case files named on the command line (docs/FORMAT.md, "Asking line by
+ * line" and "The gateway"), with guard bytes around every buffer and two fill patterns, and says where the answer is another or a byte outside it changed.
+ * Every find question is also asked of sizes and then of find_at at these sizes. */
 #define _POSIX_C_SOURCE 200809L
 #include "deodarloo.h"
 #include <stdio.h>
@@ -9,10 +10,14 @@
 /* No accepted sheet and no tables are as long as MOST, so that what is longer makes no difference. */
 enum { GUARD = 64, MOST = 1 << 15 };
 
-/* A buffer with a guard before and behind it, and what must stand in both once an answer is written. */
+/* A buffer with a guard before and behind it, how much of it is lent, and what must stand in it once an answer is written. */
 struct buffer {
     uint8_t room[GUARD + MOST + GUARD], want[GUARD + MOST + GUARD];
+    size_t lent;
 };
+
+static uint8_t sheet[MOST], offered[MOST];
+static struct buffer quote, codes, tables;
 
 static size_t least(size_t a, size_t b)
 {
@@ -33,11 +38,28 @@ static size_t unhex(const char *word, uint8_t *bytes)
     return length;
 }
 
-static void lend(struct buffer *b, uint8_t pattern, const char *written)
+/* A line from word k on, counted from 0; empty where it has fewer. */
+static const char *from_word(const char *line, int k)
+{
+    while (k-- > 0) {
+        line += strcspn(line, " ");
+        line += *line == ' ';
+    }
+    return line;
+}
+
+/* The bytes that an answer says were written, its word k; a refusal writes none. */
+static const char *written(const char *answer, int k)
+{
+    return strncmp(answer, "refused ", 8) == 0 ? "-" : from_word(answer, k);
+}
+
+static void lend(struct buffer *b, const char *length, const char *bytes, uint8_t pattern)
 {
     memset(b->room, pattern, sizeof b->room);
     memset(b->want, pattern, sizeof b->want);
-    unhex(written, b->want + GUARD);
+    unhex(bytes, b->want + GUARD);
+    b->lent = least(strtoull(length, NULL, 10), MOST);
 }
 
 static int as_wanted(const struct buffer *b)
@@ -51,7 +73,7 @@ static uint32_t number_of(const char *answer)
     unsigned a, b;
     if (sscanf(answer, "refused %u %u", &a, &b) == 2)
         return a << 16 | b;
-    if (sscanf(answer, "found %u", &a) == 1)
+    if (sscanf(answer, "found %u", &a) == 1 || sscanf(answer, "sizes %u", &a) == 1)
         return a;
     if (sscanf(answer, "broken %u", &a) == 1)
         return 2 + a;
@@ -60,35 +82,79 @@ static uint32_t number_of(const char *answer)
     return strcmp(answer, "fits") == 0 ? 0 : UINT32_MAX;
 }
 
-/* SHEET CODELEN TABLELEN = found SUM CODES TABLES, or another answer, which writes nothing */
-static int find_agrees(const char *question, const char *answer, uint8_t pattern)
+/* CODELEN TABLELEN = found SUM CODES TABLES, or a refusal */
+static void lend_both(const char *lengths, const char *answer, uint8_t pattern)
 {
-    static uint8_t sheet[MOST];
-    static struct buffer codes, tables;
-    const char *lengths = strchr(question, ' '), *first = "-", *second = "-";
-    size_t many_codes, many_tables;
-    if (!lengths || sscanf(lengths, "%zu %zu", &many_codes, &many_tables) != 2)
-        return 0;
-    if (strncmp(answer, "found ", 6) == 0) {
-        if (!(first = strchr(answer + 6, ' ')) || !(second = strchr(++first, ' ')))
-            return 0;
-        second++;
-    }
-    lend(&codes, pattern, first);
-    lend(&tables, pattern, second);
-    many_codes = least(many_codes, MOST);
-    many_tables = least(many_tables, MOST);
-    uint32_t result = find(sheet, unhex(question, sheet), codes.room + GUARD, many_codes, tables.room + GUARD, many_tables);
+    lend(&codes, lengths, written(answer, 2), pattern);
+    lend(&tables, from_word(lengths, 1), written(answer, 3), pattern);
+}
+
+/* find_at with the sizes given and the two buffers as they are lent */
+static int find_at_agrees(size_t length, const uint8_t *given, size_t many, const char *answer)
+{
+    uint32_t result = find_at(sheet, length, given, many, codes.room + GUARD, codes.lent, tables.room + GUARD, tables.lent);
     return result == number_of(answer) && as_wanted(&codes) && as_wanted(&tables);
 }
 
-/* SHEET TABLES = an answer */
-static int judge_agrees(const char *question, const char *answer)
+/* How many fields an accepted sheet has: their records, of six bytes each, come first. */
+static size_t fields_of(size_t length)
 {
-    static uint8_t sheet[MOST], tables[MOST];
-    const char *offered = strchr(question, ' ');
-    return offered && judge(sheet, unhex(question, sheet), tables, unhex(offered + 1, tables)) == number_of(answer);
+    size_t fields = 0;
+    while (6 * fields + 6 <= length && sheet[6 * fields + 2] == 1)
+        fields++;
+    return fields;
 }
+
+/* Sizes, with a buffer that suffices, and then find_at at these sizes: what find answers. Only where find's own buffers are too short and there is no answer
+ * either, find is refused with 10 and sizes with 11. */
+static int in_turn(size_t length, const char *lengths, const char *answer, uint8_t pattern)
+{
+    size_t fields = fields_of(length);
+    lend(&quote, "8", "-", pattern);
+    lend_both(lengths, answer, pattern);
+    uint32_t result = sizes(sheet, length, quote.room + GUARD, quote.lent);
+    if (result >> 16)
+        return as_wanted(&quote) && (result == number_of(answer) || (result == 11u << 16 && number_of(answer) == 10u << 16));
+    memcpy(quote.want + GUARD, quote.room + GUARD, fields);
+    return find_at_agrees(length, quote.room + GUARD, fields, answer) && as_wanted(&quote);
+}
+
+/* SHEET CODELEN TABLELEN */
+static int find_question(const char *question, const char *answer, uint8_t pattern)
+{
+    size_t length = unhex(question, sheet);
+    const char *lengths = from_word(question, 1);
+    lend_both(lengths, answer, pattern);
+    uint32_t result = find(sheet, length, codes.room + GUARD, codes.lent, tables.room + GUARD, tables.lent);
+    return result == number_of(answer) && as_wanted(&codes) && as_wanted(&tables) && in_turn(length, lengths, answer, pattern);
+}
+
+/* SHEET BUFLEN = sizes SUM BYTES, or a refusal */
+static int sizes_question(const char *question, const char *answer, uint8_t pattern)
+{
+    lend(&quote, from_word(question, 1), written(answer, 2), pattern);
+    return sizes(sheet, unhex(question, sheet), quote.room + GUARD, quote.lent) == number_of(answer) && as_wanted(&quote);
+}
+
+/* SHEET SIZES CODELEN TABLELEN */
+static int findat_question(const char *question, const char *answer, uint8_t pattern)
+{
+    size_t many = unhex(from_word(question, 1), offered);
+    lend_both(from_word(question, 2), answer, pattern);
+    return find_at_agrees(unhex(question, sheet), offered, many, answer);
+}
+
+/* SHEET TABLES; what stands behind the tables plays no part */
+static int judge_question(const char *question, const char *answer, uint8_t pattern)
+{
+    memset(offered, pattern, sizeof offered);
+    return judge(sheet, unhex(question, sheet), offered, unhex(from_word(question, 1), offered)) == number_of(answer);
+}
+
+static const struct {
+    const char *verb;
+    int (*agrees)(const char *question, const char *answer, uint8_t pattern);
+} questions[] = {{"find ", find_question}, {"sizes ", sizes_question}, {"findat ", findat_question}, {"judge ", judge_question}};
 
 /* Splits a line at its last " = ": the answer, or NULL where there is none. */
 static char *split(char *line)
@@ -104,9 +170,25 @@ static char *split(char *line)
     return answer;
 }
 
+/* Whether a line is a question that the functions take; then whether its answer is theirs. */
+static int asked(char *line, int *agrees)
+{
+    for (size_t i = 0; i < sizeof questions / sizeof *questions; i++) {
+        size_t verb = strlen(questions[i].verb);
+        if (strncmp(line, questions[i].verb, verb) != 0)
+            continue;
+        const char *answer = split(line);
+        if (!answer || answer[0] == '?')
+            return 0;
+        *agrees = questions[i].agrees(line + verb, answer, 0xff) && questions[i].agrees(line + verb, answer, 0x5a);
+        return 1;
+    }
+    return 0;
+}
+
 int main(int count, char **words)
 {
-    int asked = 0, faults = 0;
+    int many = 0, faults = 0, agrees;
     char *line = NULL;
     size_t room = 0;
     for (int i = 1; i < count; i++) {
@@ -116,12 +198,10 @@ int main(int count, char **words)
             return 1;
         }
         for (int number = 1; getline(&line, &room, file) > 0; number++) {
-            int finds = strncmp(line, "find ", 5) == 0, judges = strncmp(line, "judge ", 6) == 0;
-            const char *answer = finds || judges ? split(line) : NULL;
-            if (!answer || answer[0] == '?') /* no question that the functions take */
+            if (!asked(line, &agrees))
                 continue;
-            asked++;
-            if (finds ? find_agrees(line + 5, answer, 0xff) && find_agrees(line + 5, answer, 0x5a) : judge_agrees(line + 6, answer))
+            many++;
+            if (agrees)
                 continue;
             faults++;
             printf("gateway cases: %s:%d: another answer, or a byte outside it changed\n", words[i], number);
@@ -129,6 +209,6 @@ int main(int count, char **words)
         fclose(file);
     }
     free(line);
-    printf("gateway cases: %d questions, %d faults\n", asked, faults);
-    return faults || !asked;
+    printf("gateway cases: %d questions, %d faults\n", many, faults);
+    return faults || !many;
 }

@@ -9,13 +9,13 @@ use Rattle.prelude.specs.Tests.{Each}
 use Rattle.prelude.specs.Lists.{at}
 use Rattle.prelude.proofs.Lists.{firsts-same, sumTo-same}
 use Rattle.logic.specs.WellFormed.{WellFormed}
-use Rattle.logic.specs.Structure.{Structure, InSorts, Interprets, Candidate, codes, code}
+use Rattle.logic.specs.Structure.{Structure, InSorts, Interprets, Candidate, Satisfies, codes, code}
 use Rattle.logic.specs.Order.{sizesOf, sumOf, NoLater}
 use Rattle.logic.proofs.Codes.{reached-in-params, same-code, same-codes, satisfies-same}
 use Rattle.tables.specs.Layout.{decoded, encoded}
 use Rattle.tables.proofs.Tables.{encoded-size, decoded-cell}
 use Rattle.answer.specs.Answer.{Entry, sum}
-use Rattle.answer.specs.Demand.{Answers, Unreached, Unforced}
+use Rattle.answer.specs.Demand.{Answers, AnswersAt, Unreached, Unforced}
 
 -- N has M's sizes, and its tables hold what M's hold
 pub record Coincide (sh : Sheet) (M N : Structure) : Type 0 where
@@ -83,28 +83,45 @@ module _ (sh : Sheet) (w : WellFormed sh) (M N : Structure) (a : Coincide sh M N
             r .1 ∙ u .zero f h other bare xs (in-sorts-same (length (sh .bounds)) (M .size) (N .size) (a .size) (symbolAt sh f .params) xs (w .params f h) i) (r .0);
       }
 
+  module _ (k : Interprets M sh) where
+    same : codes N sh ≡ codes M sh
+    same = coincide-codes k
+
+    sums : sumOf N sh ≡ sumOf M sh
+    sums = sumTo-same (length (sh .bounds)) (N .size) (M .size) (a .size)
+
+    sizes : sizesOf N sh ≡ sizesOf M sh
+    sizes = firsts-same (length (sh .bounds)) (N .size) (M .size) (a .size)
+
+    satisfied : Satisfies M sh → Satisfies N sh
+    satisfied = satisfies-same M N sh (same-code M N sh w (reached k))
+
   pub coincide-answers : (e : Entry) → Answers sh e M → Answers sh e N
   coincide-answers e k =
+      let i : Interprets M sh = k .candidate .interprets in
       record {
         candidate = coincide-candidate (k .candidate);
-        satisfies = satisfies-same M N sh (same-code M N sh w (reached (k .candidate .interprets))) (k .satisfies);
-        sum = sums ∙ k .sum;
-        sizes = sizes ∙ k .sizes;
-        codes = same ∙ k .codes;
+        satisfies = satisfied i (k .satisfies);
+        sum = sums i ∙ k .sum;
+        sizes = sizes i ∙ k .sizes;
+        codes = same i ∙ k .codes;
         first = λ K c s.
             let m : NoLater sh M K = k .first K c s in
             record {
-              sum = rw sums (m .sum);
-              sizes = rw (sums, sizes) (m .sizes);
-              codes = rw (sizes, same) (m .codes);
+              sum = rw (sums i) (m .sum);
+              sizes = rw (sums i, sizes i) (m .sizes);
+              codes = rw (sizes i, same i) (m .codes);
             };
       }
-    where
-      same : codes N sh ≡ codes M sh
-      same = coincide-codes (k .candidate .interprets)
 
-      sums : sumOf N sh ≡ sumOf M sh
-      sums = sumTo-same (length (sh .bounds)) (N .size) (M .size) (a .size)
-
-      sizes : sizesOf N sh ≡ sizesOf M sh
-      sizes = firsts-same (length (sh .bounds)) (N .size) (M .size) (a .size)
+  pub coincide-answers-at : (z : List ℕ) (e : Entry) → AnswersAt sh z e M → AnswersAt sh z e N
+  coincide-answers-at z e k =
+      let i : Interprets M sh = k .candidate .interprets in
+      record {
+        candidate = coincide-candidate (k .candidate);
+        satisfies = satisfied i (k .satisfies);
+        sizes = sizes i ∙ k .sizes;
+        sum = sums i ∙ k .sum;
+        codes = same i ∙ k .codes;
+        first = λ K c s q. rw (same i) (k .first K c s q);
+      }

@@ -1,5 +1,5 @@
--- Demand 3 holds of every accepted sheet. Structures and what fits go over into each other: a candidate that satisfies the sheet has
--- sizes and codes that fit; what fits are the sizes and codes of the tables made from them, whatever the unreached cells hold.
+-- Demand 3 holds of every accepted sheet, and of the candidates of given sizes. Structures and what fits go over into each other: a candidate that
+-- satisfies the sheet has sizes and codes that fit; what fits are the sizes and codes of the tables made from them, whatever the unreached cells hold.
 use Prim.Native.Nat.{ℕ, zero, suc, _≤_, _<_}
 use mathlib.Core.Path.{_≡_, refl, ap, ap₂, sym, _∙_, subst}
 use mathlib.Core.Logic.{_⊎_, inl, inr}
@@ -12,21 +12,21 @@ use borrow.Author.Tests.{eqb-true, eqb-false}
 use native.Mathlib.Omega.{arith}
 use Rattle.logic.specs.Sheet.{Sheet, Fill, boundAt, symbolAt, termAt, fillAt, noFill}
 use Rattle.logic.specs.WellFormed.{WellFormed}
-use Rattle.prelude.specs.Lists.{at, sumTo, firsts}
+use Rattle.prelude.specs.Lists.{at, firsts}
 use Rattle.prelude.specs.Tests.{sameList}
 use Rattle.prelude.proofs.Tests.{sameList-same, same-sameList}
 use Rattle.prelude.proofs.Lists.{map-each, firsts-at, firsts-same}
-use Rattle.logic.specs.Structure.{Structure, InSorts, Candidate, Satisfies, codes, code}
+use Rattle.logic.specs.Structure.{Structure, InSorts, Bounded, Candidate, Satisfies, codes, code}
 use Rattle.logic.specs.Order.{Before, sizesOf, sumOf, Earlier}
 use Rattle.logic.proofs.Orders.{no-later-exactly}
 use Rattle.logic.proofs.Meaning.{code-below, code-congruent, codes-own, length-codes, of-one-argument}
 use Rattle.layout.specs.Layout.{accepted, reading}
 use Rattle.layout.proofs.Answers.{accepted-well-formed}
-use Rattle.answer.specs.Answer.{Entry, entryOf, cellOf, reachedCells, cellAt, structureWith, structureOf, toItself, fillCode, unforced, answer, sum}
-use Rattle.answer.specs.Demand.{Answers, Demand, Hopeless, Unreached, ToItself, Unfilled, InTables, StaysInRange}
+use Rattle.answer.specs.Answer.{Entry, entryOf, cellOf, reachedCells, cellAt, structureWith, structureOf, toItself, fillCode, unforced, answerAt, answer, sum}
+use Rattle.answer.specs.Demand.{Answers, Demand, Hopeless, CandidateSizes, AnswersAt, DemandAt, HopelessAt, Unreached, ToItself, Unfilled, Unforced, InTables, StaysInRange}
 use Rattle.answer.proofs.Lists.{found-or-none}
 use Rattle.answer.proofs.Solving.{TermOf, term-of, own-cell, solution-same}
-use Rattle.answer.proofs.Listing.{Fits, Chosen, chosen, Ahead, Sooner, sooner-asym, none-fits, sum-firsts}
+use Rattle.answer.proofs.Listing.{Fits, Chosen, chosen, ChosenAt, chosen-at, none-at, Ahead, Sooner, sooner-asym, none-fits, sum-firsts}
 
 -- a candidate that satisfies the sheet fits
 pub structure-fits : (sh : Sheet) → WellFormed sh → (M : Structure) → Candidate M sh → Satisfies M sh → Fits sh (M .size) (code M sh)
@@ -92,6 +92,16 @@ module _ (sh : Sheet) (w : WellFormed sh) (e : Entry) (f : Fits sh (at (e .sizes
   pub made-satisfies : Satisfies made sh
   made-satisfies = solution-same sh w (at (e .codes)) (code made sh) (λ i h. sym (made-code i h)) (f .solution) .meets
 
+  -- sum and codes are those of the entry, where it has one size for each sort and one code for each term
+  made-sum : firsts (length (sh .bounds)) (at (e .sizes)) ≡ e .sizes → sumOf made sh ≡ sum (e .sizes)
+  made-sum sizes = sym (sum-firsts (length (sh .bounds)) (at (e .sizes))) ∙ ap sum sizes
+
+  made-codes : firsts (length (sh .terms)) (at (e .codes)) ≡ e .codes → codes made sh ≡ e .codes
+  made-codes own =
+      sym (firsts-at (length (sh .terms)) (codes made sh) (length-codes made sh))
+      ∙ firsts-same (length (sh .terms)) (code made sh) (at (e .codes)) made-code
+      ∙ own
+
 -- The order of structures is that of their sizes and codes.
 earlier-sooner : (sh : Sheet) (e : Entry) → Chosen sh e → (N M : Structure) → sizesOf M sh ≡ e .sizes → sumOf M sh ≡ sum (e .sizes) → codes M sh ≡ e .codes → Earlier sh N M → Sooner (entryOf sh (N .size) (code N sh)) e
 earlier-sooner sh e k N M p q r (inl l) = inl (omega (arith, sum-firsts (length (sh .bounds)) (N .size), q))
@@ -122,14 +132,11 @@ answers-with sh w e q u t =
     k : Chosen sh e
     k = chosen sh w e q
 
-    sums : sumTo (length (sh .bounds)) (at (e .sizes)) ≡ sum (e .sizes)
-    sums = sym (sum-firsts (length (sh .bounds)) (at (e .sizes))) ∙ ap sum (k .sizes)
+    sums : sumOf (structureWith u sh e) sh ≡ sum (e .sizes)
+    sums = made-sum sh w e (k .fits) u (k .sizes)
 
     own : codes (structureWith u sh e) sh ≡ e .codes
-    own =
-        sym (firsts-at (length (sh .terms)) (codes (structureWith u sh e) sh) (length-codes (structureWith u sh e) sh))
-        ∙ firsts-same (length (sh .terms)) (code (structureWith u sh e) sh) (at (e .codes)) (made-code sh w e (k .fits) u)
-        ∙ k .codes
+    own = made-codes sh w e (k .fits) u (k .codes)
 
     no-sooner : {size c : ℕ → ℕ} → Fits sh size c → Sooner (entryOf sh size c) e → ⊥
     no-sooner {size} {c} g s =
@@ -196,9 +203,9 @@ module _ (sh : Sheet) (e : Entry) (f : ℕ) (xs : List ℕ) (other : ToItself sh
       (λ m l r. ap (λ (x : ℕ). at (e .codes) (fillAt sh x .term)) (w .once m k l h (r ∙ sym q)))
       (λ bare. absurd (bare k h q))
 
--- what the rule puts in a cell of the answer is a code of its sort
-pub unforced-in-range : (sh : Sheet) → WellFormed sh → StaysInRange unforced sh
-unforced-in-range sh w e q f l cs i =
+-- what the rule puts in a cell of what fits is a code of its sort
+unforced-in-tables : (sh : Sheet) → WellFormed sh → (e : Entry) → Fits sh (at (e .sizes)) (at (e .codes)) → InTables sh (at (e .sizes)) (unforced sh e)
+unforced-in-tables sh w e fits f l cs i =
     elim (to-itself-or-not sh f) [
       | inl k ↦
           of-one-argument (at (e .sizes)) (symbolAt sh f .result) (symbolAt sh f .params) k (λ xs. unforced sh e f xs < at (e .sizes) (symbolAt sh f .result))
@@ -207,9 +214,24 @@ unforced-in-range sh w e q f l cs i =
           unforced-by sh e f cs (r .0) (λ v. v < at (e .sizes) (symbolAt sh f .result))
           (λ k h p.
           subst (λ (s : ℕ). at (e .codes) (fillAt sh k .term) < at (e .sizes) s) (w .fillSort k h ∙ ap (λ (g : ℕ). symbolAt sh g .result) p)
-          (chosen sh w e q .fits .range (fillAt sh k .term) (w .filler k h)))
-          (λ bare. fits-nonempty sh w (at (e .sizes)) (at (e .codes)) (chosen sh w e q .fits) (symbolAt sh f .result) (w .result f l))
+          (fits .range (fillAt sh k .term) (w .filler k h)))
+          (λ bare. fits-nonempty sh w (at (e .sizes)) (at (e .codes)) fits (symbolAt sh f .result) (w .result f l))
     ]
+
+pub unforced-in-range : (sh : Sheet) → WellFormed sh → StaysInRange unforced sh
+unforced-in-range sh w e q = unforced-in-tables sh w e (chosen sh w e q .fits)
+
+-- the cells that no term reaches hold what `Unforced` says
+made-unforced : (sh : Sheet) → WellFormed sh → (e : Entry) → Fits sh (at (e .sizes)) (at (e .codes)) → Unforced sh (structureOf sh e)
+made-unforced sh w e fits =
+    record {
+      kept = λ f h k x l free. made-unreached sh w e fits (unforced sh e) f (x ∷ []) free ∙ unforced-kept sh e f x k;
+      filled = λ k h other xs i free.
+          made-unreached sh w e fits (unforced sh e) (fillAt sh k .symbol) xs free
+          ∙ unforced-filled sh e (fillAt sh k .symbol) xs other w k h refl
+          ∙ sym (made-code sh w e fits (unforced sh e) (fillAt sh k .term) (w .filler k h));
+      zero = λ f h other bare xs i free. made-unreached sh w e fits (unforced sh e) f xs free ∙ unforced-zero sh e f xs other bare;
+    }
 
 pub demand : (sh : Sheet) → WellFormed sh → Demand sh
 demand sh w =
@@ -219,15 +241,7 @@ demand sh w =
         λ h. elim (found-or-none (answer sh)) [ inl q ↦ q | inr r ↦ absurd (hope h (r .0) (r .1)) ],
       );
       finds = answered;
-      unreached = λ e q.
-          record {
-            kept = λ f h k x l free. made-unreached sh w e (chosen sh w e q .fits) (unforced sh e) f (x ∷ []) free ∙ unforced-kept sh e f x k;
-            filled = λ k h other xs i free.
-                made-unreached sh w e (chosen sh w e q .fits) (unforced sh e) (fillAt sh k .symbol) xs free
-                ∙ unforced-filled sh e (fillAt sh k .symbol) xs other w k h refl
-                ∙ sym (made-code sh w e (chosen sh w e q .fits) (unforced sh e) (fillAt sh k .term) (w .filler k h));
-            zero = λ f h other bare xs i free. made-unreached sh w e (chosen sh w e q .fits) (unforced sh e) f xs free ∙ unforced-zero sh e f xs other bare;
-          };
+      unreached = λ e q. made-unforced sh w e (chosen sh w e q .fits);
     }
   where
     answered : (e : Entry) → answer sh ≡ some e → Answers sh e (structureOf sh e)
@@ -240,6 +254,43 @@ demand sh w =
 pub accepted-demand : (s : List ℕ) (sh : Sheet) → reading s ≡ accepted sh → Demand sh
 accepted-demand s sh q = demand sh (accepted-well-formed s sh q)
 
--- a floor above its ceiling leaves no candidate: refusal 11
+-- the same among the candidates of given sizes
+pub demand-at : (sh : Sheet) → WellFormed sh → (z : List ℕ) → CandidateSizes sh z → DemandAt sh z
+demand-at sh w z right =
+    record {
+      refuses = (
+        λ q M c s same. none-at sh w z q (M .size) (code M sh) (structure-fits sh w M c s) same,
+        λ h. elim (found-or-none (answerAt sh z)) [ inl q ↦ q | inr r ↦ absurd (hope h (r .0) (r .1)) ],
+      );
+      finds = answered;
+      unreached = λ e q. made-unforced sh w e (chosen-at sh w z right e q .fits);
+    }
+  where
+    answered : (e : Entry) → answerAt sh z ≡ some e → AnswersAt sh z e (structureOf sh e)
+    answered e q =
+        let k : ChosenAt sh z e = chosen-at sh w z right e q in
+        let own : codes (structureOf sh e) sh ≡ e .codes = made-codes sh w e (k .fits) (unforced sh e) (k .codes) in
+        let sizes : sizesOf (structureOf sh e) sh ≡ z = ap (λ (l : List ℕ). firsts (length (sh .bounds)) (at l)) (k .sizes) ∙ firsts-at (length (sh .bounds)) z (right .many) in
+        record {
+          candidate = made-candidate sh w e (k .fits) (unforced sh e) (unforced-in-tables sh w e (k .fits));
+          satisfies = made-satisfies sh w e (k .fits) (unforced sh e);
+          sizes = sizes;
+          sum = made-sum sh w e (k .fits) (unforced sh e) (sizes ∙ sym (k .sizes));
+          codes = own;
+          first = λ N c s same.
+              rw (own, ← firsts-at (length (sh .terms)) (codes N sh) (length-codes N sh)) (k .first (N .size) (code N sh) (structure-fits sh w N c s) same);
+        }
+
+    hope : HopelessAt sh z → (e : Entry) → answerAt sh z ≡ some e → ⊥
+    hope h e q = let a : AnswersAt sh z e (structureOf sh e) = answered e q in h (structureOf sh e) (a .candidate) (a .satisfies) (a .sizes)
+
+-- THEOREM: demand 3 of every accepted sheet at all sizes that a candidate may have
+pub accepted-demand-at : (s : List ℕ) (sh : Sheet) → reading s ≡ accepted sh → (z : List ℕ) → CandidateSizes sh z → DemandAt sh z
+accepted-demand-at s sh q = demand-at sh (accepted-well-formed s sh q)
+
+-- a floor above its ceiling leaves no sizes that a candidate may have, and no candidate: refusals 17 and 11
+pub no-sizes-within : (sh : Sheet) (s : ℕ) → s < length (sh .bounds) → boundAt sh s .ceiling < boundAt sh s .floor → (size : ℕ → ℕ) → Bounded sh size → ⊥
+no-sizes-within sh s h l size b = omega (arith, b .floor s h, b .ceiling s h)
+
 pub floor-above-ceiling : (sh : Sheet) (s : ℕ) → s < length (sh .bounds) → boundAt sh s .ceiling < boundAt sh s .floor → Hopeless sh
-floor-above-ceiling sh s h l M k q = omega (arith, k .bounded .floor s h, k .bounded .ceiling s h)
+floor-above-ceiling sh s h l M k q = no-sizes-within sh s h l (M .size) (k .bounded)

@@ -8,7 +8,7 @@ use lib.ListN.{length}
 use native.Mathlib.Omega.{arith}
 use Rattle.prelude.specs.Lists.{at}
 use Rattle.logic.specs.Sheet.{Sheet, termAt, withoutFills}
-use Rattle.answer.specs.Answer.{Entry, answer, solves, cellOf, cellAt, reachedCells, unforced}
+use Rattle.answer.specs.Answer.{Entry, answerAt, answer, solves, cellOf, cellAt, reachedCells, unforced}
 use Rattle.answer.specs.Demand.{ToItself, Unfilled}
 use Rattle.answer.specs.Fills.{SameCell, PassesOverFills}
 use Rattle.answer.proofs.Solving.{own-cell}
@@ -24,10 +24,11 @@ kept-alike sh e f k xs = rw (to-itself-test sh f k) refl
 
 -- THEOREM: of every sheet, and so of every accepted one
 pub passes-over : (sh : Sheet) → PassesOverFills sh
-unfolding answer solves
+unfolding answer answerAt solves
 passes-over sh =
     record {
       same = refl;
+      sameAt = λ z. refl;
       reached = λ e q i h. held e i h (cellAt (cellOf (at (e .codes)) i (termAt sh i) .key) (reachedCells sh (e .codes))) refl;
       unfilled = λ e f bare xs. same-cell sh e f xs (no-fill e f bare xs);
       kept = λ e f k xs. same-cell sh e f xs (kept-alike sh e f k xs);

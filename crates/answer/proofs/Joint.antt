@@ -1,5 +1,6 @@
 -- The joint between the search and the definition of the answer. `Consistent` and `Fits` say the same of sizes and codes, the one of the functions
--- that view a sheet, the other of its lists, once codes past the terms are cut off; so the least that is consistent is the soonest that fits.
+-- that view a sheet, the other of its lists, once codes past the terms are cut off; so the least sizes with consistent codes are those of the soonest
+-- that fits, and the first consistent codes at given sizes are the answer at these.
 use Prim.Native.Nat.{ℕ, zero, suc, _≤_, _<_}
 use mathlib.Core.Path.{_≡_, refl, ap, sym, _∙_, subst}
 use mathlib.Core.Bool.{Bool, true, false}
@@ -15,15 +16,16 @@ use Rattle.prelude.proofs.Lists.{length-firsts, at-firsts, firsts-same, sumTo-s
 use Rattle.logic.specs.WellFormed.{WellFormed}
 use Rattle.logic.specs.Structure.{Bounded, Agree}
 use Rattle.logic.specs.Order.{Before, NotAfter}
-use Rattle.logic.specs.Problem.{Problem, WellSorted, Allowed, Consistent, Unsatisfiable, Least}
+use Rattle.logic.specs.Problem.{Problem, WellSorted, Allowed, Consistent, Unsatisfiable}
 use Rattle.logic.proofs.Meaning.{few-arguments}
 use Rattle.logic.proofs.Orders.{not-after}
 use Rattle.layout.specs.Packed.{bit}
 use Rattle.layout.specs.Views.{Views}
 use Rattle.layout.proofs.AtMostTwo.{pair-map}
-use Rattle.answer.specs.Answer.{entryOf, answer, sum}
+use Rattle.answer.specs.Answer.{Entry, entryOf, answerAt, answer, sum}
+use Rattle.answer.proofs.Lists.{found-or-none}
 use Rattle.answer.proofs.Solving.{solution-same}
-use Rattle.answer.proofs.Listing.{Fits, Sooner, sum-firsts, nothing-fits, soonest}
+use Rattle.answer.proofs.Listing.{Fits, Chosen, chosen, none-fits, nothing-fits, nothing-at, soonest-at, sum-firsts}
 
 -- Arguments by place: the one at place k, 255 where it is missing.
 abbrev argument : List ℕ → ℕ → ℕ
@@ -43,6 +45,15 @@ argument-earlier i (a ∷ l) (suc k) e h = argument-earlier i l k (e .1) (omega 
 -- equal values of the arguments, as lists and by place
 same-at : (f : ℕ → ℕ) (l m : List ℕ) (k : ℕ) → map f l ≡ map f m → f (argument l k) ≡ f (argument m k)
 same-at f l m k e = sym (List·getD-map f l k 255) ∙ ap (λ (x : List ℕ). getD x k (f 255)) e ∙ List·getD-map f m k 255
+
+-- bounds speak only of the sizes of the sheet's sorts
+pub bounded-same : (sh : Sheet) (size size′ : ℕ → ℕ) → ((s : ℕ) → s < length (sh .bounds) → size s ≡ size′ s) → Bounded sh size → Bounded sh size′
+bounded-same sh size size′ same b =
+    record {
+      floor = λ s h. omega (arith, same s h, b .floor s h);
+      ceiling = λ s h. omega (arith, same s h, b .ceiling s h);
+      total = omega (arith, sumTo-same (length (sh .bounds)) size size′ same, b .total);
+    }
 
 module _ (sh : Sheet) (P : Problem) (w : WellFormed sh) (v : Views sh P) where
   -- a term of the one view is a term of the other
@@ -115,7 +126,7 @@ module _ (sh : Sheet) (P : Problem) (w : WellFormed sh) (v : Views sh P) where
         total = rw (← v .sorts, ← v .total) (a .total);
       }
 
-  bounded-allowed : (size : ℕ → ℕ) → Bounded sh size → Allowed P size
+  pub bounded-allowed : (size : ℕ → ℕ) → Bounded sh size → Allowed P size
   bounded-allowed size b =
       record {
         floor = λ s h. let l : s < length (sh .bounds) = omega (arith, v .sorts) in omega (arith, v .floor s l, b .floor s l);
@@ -184,11 +195,7 @@ module _ (sh : Sheet) (P : Problem) (w : WellFormed sh) (v : Views sh P) where
   cut-consistent size size′ c f same =
       fits-consistent size′ (cutOff c)
       (record {
-        bounded = record {
-          floor = λ s h. omega (arith, same s h, f .bounded .floor s h);
-          ceiling = λ s h. omega (arith, same s h, f .bounded .ceiling s h);
-          total = omega (arith, sumTo-same (length (sh .bounds)) size size′ same, f .bounded .total);
-        };
+        bounded = bounded-same sh size size′ same (f .bounded);
         range = λ i h. omega (arith, cut-same c i h, f .range i h, same (sortAt sh i) (w .result (termAt sh i .symbol) (w .symbol i h)));
         solution = solution-same sh w c (cutOff c) (cut-same c) (f .solution);
       })
@@ -205,28 +212,62 @@ module _ (sh : Sheet) (P : Problem) (w : WellFormed sh) (v : Views sh P) where
   same-firsts size size′ e s h =
       sym (at-firsts (length (sh .bounds)) size s h) ∙ ap (λ (l : List ℕ). at l s) e ∙ at-firsts (length (sh .bounds)) size′ s h
 
-  none-sooner : (size c : ℕ → ℕ) → Least P size c → (size′ c′ : ℕ → ℕ) → Fits sh size′ c′ → Sooner (entryOf sh size′ c′) (entryOf sh size c) → ⊥
-  none-sooner size c l size′ c′ f s =
-      let sums : sum (firsts (length (sh .bounds)) size) ≡ sumTo (length (sh .bounds)) size = sum-firsts (length (sh .bounds)) size in
-      let sums′ : sum (firsts (length (sh .bounds)) size′) ≡ sumTo (length (sh .bounds)) size′ = sum-firsts (length (sh .bounds)) size′ in
-      let a : Allowed P size′ = bounded-allowed size′ (f .bounded) in
-      let x : Consistent P size′ (cutOff c′) = cut-consistent size′ size′ c′ f (λ i h. refl) in
-      elim s [
-        | inl m ↦
-            let b : sumTo (length (sh .bounds)) size ≤ sumTo (length (sh .bounds)) size′ = rw (← v .sorts) (l .sum size′ (cutOff c′) a x) in
-            omega arith
-        | inr m ↦
-            elim (m .1) [
-              | inl b ↦
-                  not-after (length (sh .bounds)) size size′
-                  (subst (λ (n : ℕ). NotAfter n size size′) (v .sorts) (l .sizes size′ (cutOff c′) a x (rw (v .sorts) (sym sums′ ∙ m .0 ∙ sums)))) b
-              | inr b ↦
-                  not-after (length (sh .terms)) c (cutOff c′)
-                  (subst (λ (n : ℕ). NotAfter n c (cutOff c′)) (v .terms) (l .codes (cutOff c′) (cut-consistent size′ size c′ f (same-firsts size′ size (b .0)))))
-                  (subst (λ (k : List ℕ). Before k (firsts (length (sh .terms)) c)) (firsts-same (length (sh .terms)) c′ (cutOff c′) (cut-same c′)) (b .1))
-            ]
+  -- THE JOINT: the sizes of the answer are the least with consistent codes
+  pub least-sizes-answer :
+      (size c : ℕ → ℕ) → Allowed P size → Consistent P size c
+      → ((size′ c′ : ℕ → ℕ) → Allowed P size′ → Consistent P size′ c′ → sumTo (P .sorts) size ≤ sumTo (P .sorts) size′)
+      → ((size′ c′ : ℕ → ℕ) → Allowed P size′ → Consistent P size′ c′ → sumTo (P .sorts) size′ ≡ sumTo (P .sorts) size → NotAfter (P .sorts) size size′)
+      → (e : Entry) × (answer sh ≡ some e) × (e .sizes ≡ firsts (length (sh .bounds)) size)
+  least-sizes-answer size c a x least first =
+      elim (found-or-none (answer sh)) [
+        | inl q ↦ absurd (none-fits sh w q size c f)
+        | inr r ↦ (r .0, r .1, same (r .0) (chosen sh w (r .0) (r .1)))
       ]
+    where
+      f : Fits sh size c
+      f = consistent-fits size c a x
 
-  -- THE JOINT: the least sizes and codes are the answer
-  pub least-answer : (size c : ℕ → ℕ) → Least P size c → answer sh ≡ some (entryOf sh size c)
-  least-answer size c l = soonest sh w size c (consistent-fits size c (l .allowed) (l .consistent)) (none-sooner size c l)
+      same : (e : Entry) → Chosen sh e → e .sizes ≡ firsts (length (sh .bounds)) size
+      same e k =
+          let a′ : Allowed P (at (e .sizes)) = bounded-allowed (at (e .sizes)) (k .fits .bounded) in
+          let x′ : Consistent P (at (e .sizes)) (cutOff (at (e .codes))) = cut-consistent (at (e .sizes)) (at (e .sizes)) (at (e .codes)) (k .fits) (λ i h. refl) in
+          let sums : sum (firsts (length (sh .bounds)) size) ≡ sumTo (length (sh .bounds)) size = sum-firsts (length (sh .bounds)) size in
+          let sums′ : sumTo (length (sh .bounds)) (at (e .sizes)) ≡ sum (e .sizes) = sym (sum-firsts (length (sh .bounds)) (at (e .sizes))) ∙ ap sum (k .sizes) in
+          elim (k .first size c f) [
+            | inl q ↦ sym (ap (λ (d : Entry). d .sizes) q)
+            | inr s ↦
+                elim s [
+                  | inl l ↦
+                      let b : sumTo (length (sh .bounds)) size ≤ sumTo (length (sh .bounds)) (at (e .sizes)) = rw (← v .sorts) (least (at (e .sizes)) (cutOff (at (e .codes))) a′ x′) in
+                      absurd (omega arith)
+                  | inr l ↦
+                      elim (l .1) [
+                        | inl b ↦
+                            absurd (not-after (length (sh .bounds)) size (at (e .sizes))
+                            (subst (λ (n : ℕ). NotAfter n size (at (e .sizes))) (v .sorts) (first (at (e .sizes)) (cutOff (at (e .codes))) a′ x′ (rw (v .sorts) (sums′ ∙ l .0 ∙ sums))))
+                            (rw (k .sizes) b))
+                        | inr b ↦ b .0
+                      ]
+                ]
+          ]
+
+  -- THE JOINT AT GIVEN SIZES: nothing consistent means no answer at these sizes
+  pub none-consistent-none : (size : ℕ → ℕ) → Allowed P size → ((c : ℕ → ℕ) → Consistent P size c → ⊥) → answerAt sh (firsts (length (sh .bounds)) size) ≡ none
+  none-consistent-none size a h =
+      nothing-at sh w (firsts (length (sh .bounds)) size)
+      (record {
+        many = length-firsts (length (sh .bounds)) size;
+        bounded = bounded-same sh size (at (firsts (length (sh .bounds)) size)) (λ s l. sym (at-firsts (length (sh .bounds)) size s l)) (allowed-bounded size a);
+      })
+      (λ size′ c f same. h (cutOff c) (cut-consistent size′ size c f (same-firsts size′ size same)))
+
+  -- and the first consistent codes are the answer at their sizes
+  pub first-codes-answer :
+      (size c : ℕ → ℕ) → Allowed P size → Consistent P size c → ((c′ : ℕ → ℕ) → Consistent P size c′ → NotAfter (P .terms) c c′)
+      → answerAt sh (firsts (length (sh .bounds)) size) ≡ some (entryOf sh size c)
+  first-codes-answer size c a x first =
+      soonest-at sh w size c (consistent-fits size c a x)
+      (λ size′ c′ f same b.
+      not-after (length (sh .terms)) c (cutOff c′)
+      (subst (λ (n : ℕ). NotAfter n c (cutOff c′)) (v .terms) (first (cutOff c′) (cut-consistent size′ size c′ f (same-firsts size′ size same))))
+      (subst (λ (k : List ℕ). Before k (firsts (length (sh .terms)) c)) (firsts-same (length (sh .terms)) c′ (cutOff c′) (cut-same c′)) b))

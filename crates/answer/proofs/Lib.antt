@@ -6,4 +6,5 @@ pub mod Demand
 pub mod Rules
 pub mod Fills
 pub mod Joint
+pub mod Searchable
 pub mod Coincide

@@ -1,12 +1,13 @@
--- Lists in order: membership, sorted lists, and the first entry that passes a test. In a sorted list it comes before every other that passes.
+-- Lists in order: membership, sorted lists, the first entry that passes a test, and the first for which a function gives something. In a sorted list it
+-- comes before every other that does.
 use Prim.Native.Nat.{ℕ}
 use mathlib.Core.Path.{_≡_, refl, ap, sym, _∙_, subst}
 use mathlib.Core.Bool.{Bool, true, false, false≢true, cond}
 use mathlib.Core.Logic.{_⊎_, inl, inr}
 use mathlib.Core.List.{List, [], _∷_, _++_, map}
-use mathlib.Core.Option.{Option, none, some}
+use mathlib.Core.Option.{Option, none, some, orElse}
 use native.Mathlib.Omega.{arith}
-use Rattle.answer.specs.Answer.{each, keep, firstThat}
+use Rattle.answer.specs.Answer.{each, keep, firstThat, firstGiven}
 
 abbrev pub Mem : {A : Type 0} → A → List A → Type 0
 Mem a [] = ⊥
@@ -65,6 +66,14 @@ module _ {A : Type 0} where
       step true r = (λ y m. s .0 y (keep-mem p y xs m .0), r)
       step false r = r
 
+  -- what is sorted by one relation is sorted by another that follows from it
+  pub sorted-more : (R S : A → A → Type 0) (xs : List A) → ((x y : A) → Mem x xs → Mem y xs → R x y → S x y) → Sorted R xs → Sorted S xs
+  sorted-more R S [] h s = tt
+  sorted-more R S (x ∷ xs) h s = (
+    λ y m. h x y (inl refl) (inr m) (s .0 y m),
+    sorted-more R S xs (λ a b k l r. h a b (inr k) (inr l) r) (s .1),
+  )
+
   -- the first that passes a test: it stands in the list and passes, and every other that passes comes later
   pub record First (R : A → A → Type 0) (p : A → Bool) (xs : List A) (a : A) : Type 0 where
     pub member : Mem a xs
@@ -113,6 +122,41 @@ module _ {A : Type 0} where
   found-or-none (some a) = inr (a, refl)
 
 module _ {A B : Type 0} where
+  -- the first for which f gives something: it stands in the list, f gives b for it, and every other for which f gives something comes later
+  pub record FirstGiven (R : A → A → Type 0) (f : A → Option B) (xs : List A) (b : B) : Type 0 where
+    pub from : A
+    pub member : Mem from xs
+    pub given : f from ≡ some b
+    pub least : (y : A) → Mem y xs → (c : B) → f y ≡ some c → (y ≡ from) ⊎ R from y
+
+  pub first-given : (R : A → A → Type 0) (f : A → Option B) (xs : List A) (b : B) → Sorted R xs → firstGiven f xs ≡ some b → FirstGiven R f xs b
+  unfolding orElse
+  first-given R f [] b s e = absurd (none-some b e)
+  first-given R f (x ∷ xs) b s e = step (f x) refl e (first-given R f xs b (s .1))
+    where
+      step : (o : Option B) → f x ≡ o → orElse o (firstGiven f xs) ≡ some b → (firstGiven f xs ≡ some b → FirstGiven R f xs b) → FirstGiven R f (x ∷ xs) b
+      step (some c) t g r =
+          record { from = x; member = inl refl; given = t ∙ g; least = λ y m d v. elim m [ inl i ↦ inl i | inr i ↦ inr (s .0 y i) ] }
+      step none t g r =
+          let k : FirstGiven R f xs b = r g in
+          record {
+            from = k .from;
+            member = inr (k .member);
+            given = k .given;
+            least = λ y m d v. elim m [ inl i ↦ absurd (none-some d (sym t ∙ ap f (sym i) ∙ v)) | inr i ↦ k .least y i d v ];
+          }
+
+  -- where there is none, f gives nothing for any entry
+  pub none-given : (f : A → Option B) (xs : List A) → firstGiven f xs ≡ none → (y : A) → Mem y xs → f y ≡ none
+  unfolding orElse
+  none-given f [] e y m = absurd m
+  none-given f (x ∷ xs) e y m = step (f x) refl e m (none-given f xs)
+    where
+      step : (o : Option B) → f x ≡ o → orElse o (firstGiven f xs) ≡ none → Mem y (x ∷ xs) → (firstGiven f xs ≡ none → (z : A) → Mem z xs → f z ≡ none) → f y ≡ none
+      step (some c) t g n r = absurd (none-some c (sym g))
+      step none t g (inl i) r = ap f i ∙ t
+      step none t g (inr i) r = r g y i
+
   pub mem-map : (f : A → B) (a : A) (xs : List A) → Mem a xs → Mem (f a) (map f xs)
   mem-map f a [] m = absurd m
   mem-map f a (x ∷ xs) (inl e) = inl (ap f e)

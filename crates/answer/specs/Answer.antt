@@ -1,9 +1,10 @@
--- Interface. The answer to a sheet, by definition: the first entry of a plain listing that solves the sheet (docs/FORMAT.md, "Which answer"), and
--- the structure that it stands for. How the answer is found plays no part here.
+-- Interface. The answer to a sheet, by definition: of a plain listing of sizes the first that have an answer, and at given sizes the first of a plain
+-- listing of codes that solves the sheet (docs/FORMAT.md, "Which answer"); and the structure that it stands for. How the answer is found plays no part
+-- here.
 use Prim.Native.Nat.{ℕ, suc, _-_}
 use mathlib.Core.Bool.{Bool, true, not, _&&_, _||_, cond}
 use mathlib.Core.List.{List, [], _∷_, _++_, map}
-use mathlib.Core.Option.{Option, none, some, Option·getD}
+use mathlib.Core.Option.{Option, none, some, orElse, Option·getD}
 use lib.ListN.{length}
 use lib.Dec.{eqb}
 use Rattle.logic.specs.Sheet.{Sheet, Bound, Symbol, Term, Literal, Fill, symbolAt}
@@ -13,8 +14,8 @@ use Rattle.logic.specs.Structure.{Structure}
 use Rattle.logic.specs.Box.{Range, box}
 use Rattle.tables.specs.Tests.{holds}
 
--- Lists: what f gives of each entry, one after the other; the entries that pass a test; the first that does; the sum. (What a `let` binds
--- is computed only where it is wanted, so that the worked sheets compute.)
+-- Lists: what f gives of each entry, one after the other; the entries that pass a test; the first that does; the first that f gives something
+-- for, that is, what it gives; the sum. (What a `let` binds is computed only where it is wanted, so that the worked sheets compute.)
 abbrev pub each : {A B : Type 0} → List A → (A → List B) → List B
 each [] f = []
 each (x ∷ xs) f = f x ++ each xs f
@@ -26,6 +27,10 @@ keep p (x ∷ xs) = let r = keep p xs in cond (p x) (x ∷ r) r
 abbrev pub firstThat : {A : Type 0} → (A → Bool) → List A → Option A
 firstThat p [] = none
 firstThat p (x ∷ xs) = let r = firstThat p xs in cond (p x) (some x) r
+
+abbrev pub firstGiven : {A B : Type 0} → (A → Option B) → List A → Option B
+firstGiven f [] = none
+firstGiven f (x ∷ xs) = let r = firstGiven f xs in orElse (f x) r
 
 abbrev pub sum : List ℕ → ℕ
 sum l = sumTo (length l) (at l)
@@ -60,9 +65,9 @@ sizesOfSum sh n = keep (λ sizes. eqb (sum sizes) n) (box (sizeRanges sh))
 abbrev pub entriesAt : Sheet → List ℕ → List Entry
 entriesAt sh sizes = map (λ codes. record { sizes = sizes; codes = codes }) (box (codeRanges sh sizes))
 
--- the smallest sum first, up to the total; of one sum, the sizes that come first; of the same sizes, the codes that come first
-abbrev pub listing : Sheet → List Entry
-listing sh = each (run 0 (suc (sh .total))) (λ n. each (sizesOfSum sh n) (entriesAt sh))
+-- the sizes that a candidate may have: the smallest sum first, up to the total; of one sum, the sizes that come first
+abbrev pub sizesInOrder : Sheet → List (List ℕ)
+sizesInOrder sh = each (run 0 (suc (sh .total))) (sizesOfSum sh)
 
 -- A cell that a term reaches: the symbol with the codes of the arguments, and the term's code, which the table holds there.
 pub record Cell : Type 0 where
@@ -98,9 +103,13 @@ allHold c (l ∷ ls) = holds c l && allHold c ls
 unfoldable pub solves : Sheet → List ℕ → Bool
 solves sh codes = functional (reachedCells sh codes) && allHold (at codes) (sh .literals)
 
--- THE ANSWER: sizes and codes of the first entry that solves the sheet.
+-- THE ANSWER AT GIVEN SIZES: the first entry with these sizes that solves the sheet.
+unfoldable pub answerAt : Sheet → List ℕ → Option Entry
+answerAt sh sizes = firstThat (λ (e : Entry). solves sh (e .codes)) (entriesAt sh sizes)
+
+-- THE ANSWER: that at the first sizes that have one.
 unfoldable pub answer : Sheet → Option Entry
-answer sh = firstThat (λ (e : Entry). solves sh (e .codes)) (listing sh)
+answer sh = firstGiven (answerAt sh) (sizesInOrder sh)
 
 -- the code that a cell holds, where a term reaches it
 abbrev pub cellAt : List ℕ → List Cell → Option ℕ

@@ -1,17 +1,17 @@
--- Interface. Demand 3: what the answer by definition is among all structures, and that it does not depend on what the cells hold that no term
--- reaches. Proved for every accepted sheet: `accepted-demand` of proofs/Demand.antt, `rules-agree` of proofs/Rules.antt. What a call of find
--- leaves behind follows in finder/specs/Promise.antt.
+-- Interface. Demand 3: what the answer by definition is among all structures, and what the answer at given sizes is among those of these sizes; and that
+-- the answer does not depend on what the cells hold that no term reaches. Proved for every accepted sheet: `accepted-demand` and `accepted-demand-at` of
+-- proofs/Demand.antt, `rules-agree` of proofs/Rules.antt. What a call leaves behind follows in finder/specs/Promise.antt and find_at/specs/Promise.antt.
 use Prim.Native.Nat.{ℕ, _<_}
 use mathlib.Core.Path.{_≡_}
-use mathlib.Core.Logic.{_↔_}
+use mathlib.Core.Logic.{_↔_, _⊎_}
 use mathlib.Core.List.{List, [], _∷_, map}
 use mathlib.Core.Option.{none, some}
 use lib.ListN.{length}
 use Rattle.logic.specs.Sheet.{Sheet, symbolAt, termAt, fillAt}
-use Rattle.logic.specs.Structure.{Structure, InSorts, Candidate, Satisfies, codes, code}
-use Rattle.logic.specs.Order.{sizesOf, sumOf, NoLater}
+use Rattle.logic.specs.Structure.{Structure, InSorts, Bounded, Candidate, Satisfies, codes, code}
+use Rattle.logic.specs.Order.{Before, sizesOf, sumOf, NoLater}
 use Rattle.prelude.specs.Lists.{at}
-use Rattle.answer.specs.Answer.{Entry, Rule, answer, sum, structureOf}
+use Rattle.answer.specs.Answer.{Entry, Rule, answerAt, answer, sum, structureOf}
 
 -- The structure M answers the sheet with the sizes and codes of an entry: it is a candidate that satisfies every statement; sum, sizes
 -- and codes are its own; and every candidate that satisfies every statement has at least that sum; where its sum is the same, its sizes are
@@ -55,6 +55,34 @@ pub record Demand (sh : Sheet) : Type 0 where
   pub finds : (e : Entry) → answer sh ≡ some e → Answers sh e (structureOf sh e)
   -- and the cells that no term reaches hold what `Unforced` says
   pub unreached : (e : Entry) → answer sh ≡ some e → Unforced sh (structureOf sh e)
+
+-- sizes that a candidate may have: one for each sort, from floor to ceiling, and summing to at most the total
+pub record CandidateSizes (sh : Sheet) (z : List ℕ) : Type 0 where
+  pub many : length z ≡ length (sh .bounds)
+  pub bounded : Bounded sh (at z)
+
+-- The structure M answers the sheet at the sizes z, with the codes of an entry: it is a candidate of exactly these sizes that satisfies every
+-- statement; sum and codes are its own; and every candidate of exactly these sizes that satisfies every statement has the same codes, or codes
+-- that come later.
+pub record AnswersAt (sh : Sheet) (z : List ℕ) (e : Entry) (M : Structure) : Type 0 where
+  pub candidate : Candidate M sh
+  pub satisfies : Satisfies M sh
+  pub sizes : sizesOf M sh ≡ z
+  pub sum : sumOf M sh ≡ sum (e .sizes)
+  pub first : (N : Structure) → Candidate N sh → Satisfies N sh → sizesOf N sh ≡ z → (codes N sh ≡ codes M sh) ⊎ Before (codes M sh) (codes N sh)
+  pub codes : codes M sh ≡ e .codes
+
+-- no candidate of exactly these sizes satisfies every statement
+abbrev pub HopelessAt : Sheet → List ℕ → Type 0
+HopelessAt sh z = (M : Structure) → Candidate M sh → Satisfies M sh → sizesOf M sh ≡ z → ⊥
+
+pub record DemandAt (sh : Sheet) (z : List ℕ) : Type 0 where
+  -- no answer at these sizes (refusal 11) exactly when no candidate of exactly these sizes satisfies every statement
+  pub refuses : (answerAt sh z ≡ none) ↔ HopelessAt sh z
+  -- otherwise the answer's tables are such a candidate, the one with the earliest codes
+  pub finds : (e : Entry) → answerAt sh z ≡ some e → AnswersAt sh z e (structureOf sh e)
+  -- and the cells that no term reaches hold what `Unforced` says
+  pub unreached : (e : Entry) → answerAt sh z ≡ some e → Unforced sh (structureOf sh e)
 
 -- M answers the sheet with an entry by a rule: the cells that no term reaches hold what the rule says
 pub record AnswersBy (rule : Rule) (sh : Sheet) (e : Entry) (M : Structure) : Type 0 where

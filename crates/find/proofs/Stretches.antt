@@ -16,10 +16,11 @@ use Rattle.tables.proofs.Whole.{packs-limited}
 use Rattle.tables.proofs.Packing.{packs-views, symbols-packed}
 use Rattle.tables.proofs.Offsets.{offset-same}
 use Rattle.tables.proofs.Longest.{few-cells}
-use Rattle.finder.specs.Find.{Finds, ReadFrom}
-use Rattle.finder.specs.declared.Finding.{Finding}
-use Rattle.finder.specs.declared.Finding.the-variants.{Found}
-use Rattle.finder.proofs.Searching.{stands}
+use Rattle.sheet.specs.Verdict.{ReadFrom}
+use Rattle.finder.specs.Find.{Finds}
+use Rattle.find_at.specs.declared.Finding.{Finding}
+use Rattle.find_at.specs.declared.Finding.the-variants.{Found}
+use Rattle.judge.proofs.Questions.{read-packs}
 use Rattle.finder.proofs.Delivery.{found-whole}
 use Rattle.find.specs.Parts.{Printable, Stretches}
 
@@ -27,7 +28,7 @@ use Rattle.find.specs.Parts.{Printable, Stretches}
 pub found-printable : (p : Parsed) (q : ReadFrom p) (cs ts cs′ ts′ : List ℕ) (r : Finding) (sum : ℕ) → Finds (q .bytes) cs ts cs′ ts′ r → r ≡ Found sum → Printable p ts′
 found-printable p q cs ts cs′ ts′ r sum f e =
     let whole = found-whole (q .bytes) cs ts (q .sheet) sum (q .reads) (sym (f .result) ∙ e) in
-    rw (f .tables) (record { sheet = q .sheet; packs = stands p q; sizes = whole .0; room = whole .1 })
+    rw (f .tables) (record { sheet = q .sheet; packs = read-packs p q; sizes = whole .0; room = whole .1 })
 
 module _ (p : Parsed) (t : List ℕ) (b : Printable p t) where
   abbrev sh : Sheet

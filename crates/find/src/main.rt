@@ -1,7 +1,7 @@
 // The find program: reads a sheet from standard input, and prints its answer or why it is refused. It stops at the first write that fails, and
 // says on standard error when standard input cannot be read or standard output cannot be written.
-use finder::Finding;
-use finder::MOST_TABLES;
+use find_at::Finding;
+use find_at::MOST_TABLES;
 use layout::Parsed;
 use libc::STDERR_FILENO;
 use libc::STDIN_FILENO;
@@ -72,7 +72,7 @@ fn answer(sheet: &[u8], codes: &mut [u8], tables: &mut [u8], line: &mut [u8]) ->
         return print_refusal(number, place, line);
     }
     let p = parsing.sheet;
-    let found = finder::find_parsed(p, codes, tables);
+    let found = finder::in_turn(p, codes, tables);
     match found {
         Finding::Refused { number, place } => print_refusal(number, place, line),
         Finding::Found { sum } => print_answer(p, sum, tables, line),

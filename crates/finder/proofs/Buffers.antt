@@ -1,21 +1,14 @@
--- Every byte of a buffer with an answer in front: the answer's, then what stood there before.
+-- Result and buffers by what became of the call.
 use Prim.Native.Nat.{ℕ}
 use mathlib.Core.Path.{_≡_, refl, ap, sym, _∙_}
 use mathlib.Core.List.{List}
-use lib.ListN.{length, take, drop}
+use lib.ListN.{length}
 use native.Mathlib.Omega.{arith}
-use lib.Seq.{take-append-seam, drop-append-seam}
-use Rattle.finder.specs.Find.{Outcome, turnedDown, answered, outcome, finds, finding, codesIn, codesAfter, tablesIn, tablesAfter}
-use Rattle.finder.specs.declared.Finding.the-variants.{Refused}
-use Rattle.prelude.specs.Lists.{fronted}
+use Rattle.find_at.specs.Found.{Outcome, turnedDown, answered, finds, codesIn, tablesIn}
+use Rattle.find_at.specs.declared.Finding.{Finding}
+use Rattle.find_at.specs.declared.Finding.the-variants.{Refused}
+use Rattle.finder.specs.Find.{outcome, finding, codesAfter, tablesAfter, Finds}
 
-pub front-fronted : (new buffer : List ℕ) → take (length new) (fronted new buffer) ≡ new
-front-fronted new buffer = take-append-seam new (drop (length new) buffer)
-
-pub rest-fronted : (new buffer : List ℕ) → drop (length new) (fronted new buffer) ≡ drop (length new) buffer
-rest-fronted new buffer = drop-append-seam new (drop (length new) buffer)
-
--- result and buffers by what became of the call
 pub record Exit (s cs ts : List ℕ) (o : Outcome) : Type 0 where
   pub result : finding s (length cs) (length ts) ≡ finds o
   pub codes : codesAfter s cs ts ≡ codesIn o cs
@@ -40,3 +33,15 @@ refused-untouched s cs ts n i f = step (outcome s (length cs) (length ts)) refl
         let r : finds (answered sh e) ≡ Refused n i = sym (exit s cs ts (answered sh e) q .result) ∙ f in
         let z : _≡_ {A = ℕ} 0 1 = cc in
         absurd (omega arith)
+
+-- what the outcome of a call makes of the result and the buffers
+outcome-finds :
+    (s cs ts cs′ ts′ : List ℕ) (r : Finding) (o : Outcome) → outcome s (length cs) (length ts) ≡ o → r ≡ finds o → cs′ ≡ codesIn o cs → ts′ ≡ tablesIn o ts
+    → Finds s cs ts cs′ ts′ r
+outcome-finds s cs ts cs′ ts′ r o e a b c =
+    let x = exit s cs ts o e in
+    record { result = a ∙ sym (x .result); codes = b ∙ sym (x .codes); tables = c ∙ sym (x .tables) }
+
+-- a refusal leaves both buffers
+pub refusal-finds : (s cs ts : List ℕ) (n i : ℕ) → outcome s (length cs) (length ts) ≡ turnedDown n i → Finds s cs ts cs ts (Refused n i)
+refusal-finds s cs ts n i e = outcome-finds s cs ts cs ts (Refused n i) (turnedDown n i) e refl refl refl

@@ -1,37 +1,39 @@
--- Demand 3 of the bytes: what a call gives back and leaves in the buffers is the answer of the sheet, and only that. The bytes in front are those of
--- the answer's structure; decoded they give a structure alike (the round trip), and so all that holds of the answer holds of what was written.
+-- Demand 3 of the bytes: what a call gives back and leaves in the buffers is the answer of the sheet, and only that. The answer is that at its own
+-- sizes, so what stands in the buffers is known from find_at; that every other candidate comes no earlier is known of the answer.
 use Prim.Native.Nat.{ℕ, _≤_, _<_}
 use mathlib.Core.Path.{_≡_, refl, ap, sym, _∙_}
 use mathlib.Core.Logic.{_⊎_, inl, inr}
 use mathlib.Core.List.{List}
 use mathlib.Core.Option.{Option, none, some}
-use lib.ListN.{length, take, drop, length-append, List·getD-append}
+use lib.ListN.{length, drop}
 use native.Mathlib.Decide.{decLt}
 use native.Mathlib.Omega.{arith}
 use Rattle.logic.specs.Sheet.{Sheet}
 use Rattle.logic.specs.Order.{sizesOf}
 use Rattle.logic.specs.WellFormed.{WellFormed}
 use Rattle.prelude.specs.Lists.{at}
-use Rattle.logic.proofs.Meaning.{length-codes}
 use Rattle.layout.specs.Layout.{Reading, accepted, reading}
 use Rattle.layout.proofs.Answers.{accepted-well-formed}
 use Rattle.tables.specs.Layout.{extent, decoded, encoded}
-use Rattle.tables.proofs.Tables.{extent-at-ceilings, length-encoded, encoded-size, encoded-laid, extent-same}
+use Rattle.tables.proofs.Tables.{extent-at-ceilings, length-encoded}
 use Rattle.judge.specs.Judge.{judgedOf, judgement}
 use Rattle.tables.specs.declared.Judgement.the-variants.{Fits}
 use Rattle.judge.proofs.Judged.{judged-says}
-use Rattle.answer.specs.Answer.{Entry, answer, sum, structureOf, unforced}
-use Rattle.finder.specs.Find.{turnedDown, answered, ceilings, answering, outcome, finding, codesAfter, tablesAfter}
-use Rattle.answer.specs.Demand.{Answers, AnswersBy}
-use Rattle.finder.specs.Promise.{Delivered, Promised, codesWritten, tablesWritten}
-use Rattle.finder.specs.declared.Finding.the-variants.{Found, Refused}
+use Rattle.answer.specs.Answer.{Entry, answerAt, answer, sum, structureOf, unforced}
+use Rattle.answer.specs.Demand.{Answers, AnswersBy, AnswersAt, CandidateSizes}
 use Rattle.answer.proofs.Lists.{found-or-none}
-use Rattle.answer.proofs.Demand.{demand}
+use Rattle.answer.proofs.Demand.{demand, demand-at}
 use Rattle.answer.proofs.Rules.{by-unforced}
-use Rattle.answer.proofs.Listing.{sum-firsts}
+use Rattle.answer.proofs.Listing.{answer-at, answer-sizes, sum-firsts}
+use Rattle.answer.proofs.Coincide.{coincide-answers, round-trip}
+use Rattle.find_at.specs.Found.{turnedDown, answered, ceilings, answering}
+use Rattle.find_at.specs.Promise.{DeliveredAt, codesWritten, tablesWritten}
+use Rattle.find_at.specs.declared.Finding.the-variants.{Found, Refused}
+use Rattle.find_at.proofs.Delivery as atSizes
+use Rattle.finder.specs.Find.{outcome, finding, codesAfter, tablesAfter}
+use Rattle.finder.specs.Promise.{Delivered, Promised}
 use Rattle.finder.proofs.Outcomes.{outcome-short, outcome-long}
-use Rattle.finder.proofs.Buffers.{Exit, exit, front-fronted, rest-fronted}
-use Rattle.answer.proofs.Coincide.{coincide-answers, coincide-unforced, round-trip}
+use Rattle.finder.proofs.Buffers.{Exit, exit}
 
 module _ (sh : Sheet) (w : WellFormed sh) (s cs ts : List ℕ) (reads : reading s ≡ accepted sh) (codesFit : length (sh .terms) ≤ length cs) (tablesFit : extent sh (ceilings sh) ≤ length ts) where
   -- what the answer makes of the call
@@ -39,74 +41,62 @@ module _ (sh : Sheet) (w : WellFormed sh) (s cs ts : List ℕ) (reads : reading 
   exits a q = exit s cs ts (answering sh a) (outcome-long s sh a (length cs) (length ts) reads codesFit tablesFit q)
 
   module _ (e : Entry) (q : answer sh ≡ some e) where
-    abbrev bytes : List ℕ
-    bytes = encoded (structureOf sh e) sh
+    -- the answer is that at its own sizes
+    own : answerAt sh (e .sizes) ≡ some e
+    own = answer-at sh w e q
 
-    given : Answers sh e (structureOf sh e)
-    given = demand sh w .finds e q
+    right : CandidateSizes sh (e .sizes)
+    right = answer-sizes sh w e q
 
-    long : length (e .codes) ≡ length (sh .terms)
-    long = ap length (sym (given .codes)) ∙ length-codes (structureOf sh e) sh
+    given : AnswersAt sh (e .sizes) e (structureOf sh e)
+    given = demand-at sh w (e .sizes) right .finds e own
 
-    -- the sizes in front of the buffer are the answer's
-    own-sizes : (i : ℕ) → i < length (sh .bounds) → at (tablesAfter s cs ts) i ≡ structureOf sh e .size i
-    own-sizes i h =
-        ap (λ (l : List ℕ). at l i) (exits (some e) q .tables)
-        ∙ List·getD-append bytes (drop (length bytes) ts) 0 i (omega (arith, length-encoded (structureOf sh e) sh w))
-        ∙ encoded-size (structureOf sh e) sh w i h
+    abbrev cs′ : List ℕ
+    cs′ = codesAfter s cs ts
+
+    abbrev ts′ : List ℕ
+    ts′ = tablesAfter s cs ts
+
+    x : Exit s cs ts (answering sh (some e))
+    x = exits (some e) q
 
     -- the tables in front of the buffer are as long as their own sizes say
-    pub extended : extent sh (at (tablesAfter s cs ts)) ≡ length bytes
-    extended =
-        extent-same sh w (at (tablesAfter s cs ts)) (structureOf sh e .size) own-sizes ∙ sym (length-encoded (structureOf sh e) sh w)
+    pub extended : extent sh (at ts′) ≡ length (encoded (structureOf sh e) sh)
+    extended = atSizes.extended sh w (e .sizes) e given cs ts cs′ ts′ (x .codes) (x .tables)
 
-    tables-room : length bytes ≤ length ts
+    tables-room : length (encoded (structureOf sh e) sh) ≤ length ts
     tables-room =
         omega (arith, length-encoded (structureOf sh e) sh w, extent-at-ceilings sh w (structureOf sh e .size) (given .candidate .bounded))
 
-    -- sizes of at most 16 codes, and no table past the buffer's end
-    whole : ((i : ℕ) → i < length (sh .bounds) → at (tablesAfter s cs ts) i ≤ 16) × (extent sh (at (tablesAfter s cs ts)) ≤ length (tablesAfter s cs ts))
-    whole = (
-      λ i h. omega (arith, own-sizes i h, given .candidate .bounded .ceiling i h, w .ceiling i h .1),
-      omega (arith, extended, ap length (exits (some e) q .tables), length-append bytes (drop (length bytes) ts)),
-    )
+    whole : ((i : ℕ) → i < length (sh .bounds) → at ts′ i ≤ 16) × (extent sh (at ts′) ≤ length ts′)
+    whole = atSizes.whole sh w (e .sizes) e given cs ts cs′ ts′ (x .codes) (x .tables)
 
-    pub written : tablesWritten sh (tablesAfter s cs ts) ≡ bytes
-    written =
-        ap (λ (k : ℕ). take k (tablesAfter s cs ts)) extended
-        ∙ ap (take (length bytes)) (exits (some e) q .tables)
-        ∙ front-fronted bytes ts
+    pub written : tablesWritten sh ts′ ≡ encoded (structureOf sh e) sh
+    written = atSizes.written sh w (e .sizes) e given cs ts cs′ ts′ (x .codes) (x .tables)
 
-    told : codesWritten sh (codesAfter s cs ts) ≡ e .codes
-    told =
-        ap (λ (k : ℕ). take k (codesAfter s cs ts)) (sym long)
-        ∙ ap (take (length (e .codes))) (exits (some e) q .codes)
-        ∙ front-fronted (e .codes) cs
+    told : codesWritten sh cs′ ≡ e .codes
+    told = atSizes.told sh w (e .sizes) e given cs ts cs′ ts′ (x .codes) (x .tables)
 
-    delivered : Delivered sh (sum (e .sizes)) (codesWritten sh (codesAfter s cs ts)) (tablesWritten sh (tablesAfter s cs ts))
+    -- what holds of it among the candidates of its sizes, and that every other candidate comes no earlier
+    delivered : Delivered sh (sum (e .sizes)) (codesWritten sh cs′) (tablesWritten sh ts′)
     delivered =
-        let g : Answers sh e (decoded sh bytes) = coincide-answers sh w (structureOf sh e) (decoded sh bytes) (round-trip sh w (structureOf sh e)) e given in
-        rw written
-        (record {
-          laid = encoded-laid (structureOf sh e) sh w (given .candidate .interprets) (λ i h. omega (arith, given .candidate .bounded .ceiling i h, w .ceiling i h .1));
-          candidate = g .candidate;
-          satisfies = g .satisfies;
-          sum = sym (g .sum);
-          codes = told ∙ sym (g .codes);
-          first = g .first;
-          unreached = coincide-unforced sh w (structureOf sh e) (decoded sh bytes) (round-trip sh w (structureOf sh e)) (given .candidate .interprets) (demand sh w .unreached e q);
-        })
+        let d : DeliveredAt sh (e .sizes) (sum (e .sizes)) (codesWritten sh cs′) (tablesWritten sh ts′) = atSizes.delivered sh w (e .sizes) e given cs ts cs′ ts′ (x .codes) (x .tables) (demand sh w .unreached e q) in
+        let g : Answers sh e (decoded sh (encoded (structureOf sh e) sh)) = coincide-answers sh w (structureOf sh e) (decoded sh (encoded (structureOf sh e) sh)) (round-trip sh w (structureOf sh e)) e (demand sh w .finds e q) in
+        record {
+          laid = d .laid;
+          candidate = d .candidate;
+          satisfies = d .satisfies;
+          sum = d .sum;
+          codes = d .codes;
+          first = rw written (g .first);
+          unreached = d .unreached;
+        }
 
-    behind-codes : drop (length (sh .terms)) (codesAfter s cs ts) ≡ drop (length (sh .terms)) cs
-    behind-codes =
-        rw (← long) (ap (drop (length (e .codes))) (exits (some e) q .codes) ∙ rest-fronted (e .codes) cs)
+    behind-codes : drop (length (sh .terms)) cs′ ≡ drop (length (sh .terms)) cs
+    behind-codes = atSizes.behind-codes sh w (e .sizes) e given cs ts cs′ ts′ (x .codes) (x .tables)
 
-    behind-tables : drop (extent sh (at (tablesAfter s cs ts))) (tablesAfter s cs ts) ≡ drop (extent sh (at (tablesAfter s cs ts))) ts
-    behind-tables =
-        ap (λ (k : ℕ). drop k (tablesAfter s cs ts)) extended
-        ∙ ap (drop (length bytes)) (exits (some e) q .tables)
-        ∙ rest-fronted bytes ts
-        ∙ ap (λ (k : ℕ). drop k ts) (sym extended)
+    behind-tables : drop (extent sh (at ts′)) ts′ ≡ drop (extent sh (at ts′)) ts
+    behind-tables = atSizes.behind-tables sh w (e .sizes) e given cs ts cs′ ts′ (x .codes) (x .tables)
 
   -- what was found is the answer
   found-is : (n : ℕ) → finding s (length cs) (length ts) ≡ Found n → (e : Entry) × (answer sh ≡ some e) × (sum (e .sizes) ≡ n)

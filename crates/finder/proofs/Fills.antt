@@ -12,7 +12,8 @@ use Rattle.layout.specs.Encode.{encode}
 use Rattle.layout.proofs.Answers.{unfilled-read}
 use Rattle.answer.specs.Answer.{Entry, answer}
 use Rattle.answer.proofs.Fills.{passes-over}
-use Rattle.finder.specs.Find.{Outcome, turnedDown, short, answering, consider, outcome, finds, finding, codesIn, codesAfter}
+use Rattle.find_at.specs.Found.{Outcome, turnedDown, short, answering, finds, codesIn}
+use Rattle.finder.specs.Find.{consider, outcome, finding, codesAfter}
 
 abbrev branch : Sheet → Option Entry → Bool → Outcome
 branch sh a b = elim b [ true ↦ turnedDown 10 0 | false ↦ answering sh a ]

@@ -1,5 +1,5 @@
 pub mod Outcomes
 pub mod Buffers
-pub mod Searching
+pub mod Turn
 pub mod Delivery
 pub mod Fills

@@ -1,3 +1,4 @@
--- Both are the interface.
+-- All are the interface.
 pub mod Find
+pub mod Turn
 pub mod Promise

@@ -4,15 +4,16 @@ use Prim.Native.Nat.{ℕ}
 use mathlib.Core.Path.{_≡_}
 use mathlib.Core.Logic.{_↔_, _⊎_}
 use mathlib.Core.List.{List}
-use lib.ListN.{length, take, drop}
+use lib.ListN.{length, drop}
 use Rattle.logic.specs.Sheet.{Sheet}
 use Rattle.prelude.specs.Lists.{at}
 use Rattle.logic.specs.Structure.{Structure, Candidate, Satisfies, codes}
 use Rattle.logic.specs.Order.{sumOf, NoLater}
 use Rattle.tables.specs.Layout.{extent, decoded, WellLaid}
 use Rattle.answer.specs.Demand.{Hopeless, Unforced}
+use Rattle.find_at.specs.Promise.{codesWritten, tablesWritten}
 use Rattle.finder.specs.Find.{finding, codesAfter, tablesAfter}
-use Rattle.finder.specs.declared.Finding.the-variants.{Found, Refused}
+use Rattle.find_at.specs.declared.Finding.the-variants.{Found, Refused}
 
 -- What `Demand` says of the answer, said of what a call leaves behind: the number it gives, the codes C and the tables T that it wrote. The tables are well laid, and
 -- the structure that they hold is a candidate that satisfies every statement; the sum and the codes are its own; every other such candidate
@@ -25,13 +26,6 @@ pub record Delivered (sh : Sheet) (n : ℕ) (C T : List ℕ) : Type 0 where
   pub codes : C ≡ codes (decoded sh T) sh
   pub first : (N : Structure) → Candidate N sh → Satisfies N sh → NoLater sh (decoded sh T) N
   pub unreached : Unforced sh (decoded sh T)
-
--- the codes and the tables in front of the two buffers
-abbrev pub codesWritten : Sheet → List ℕ → List ℕ
-codesWritten sh buffer = take (length (sh .terms)) buffer
-
-abbrev pub tablesWritten : Sheet → List ℕ → List ℕ
-tablesWritten sh buffer = take (extent sh (at buffer)) buffer
 
 -- A call on an accepted sheet, with buffers that suffice: cause 11 exactly when no candidate satisfies every statement, and otherwise
 -- something is found; it is delivered in front of both buffers, and no byte behind it is touched

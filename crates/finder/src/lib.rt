@@ -1,24 +1,12 @@
-// The question "find": what a call gives back and leaves in both buffers, and demand 3 of it (specs/, proofs/).
+// The question "find": what a call gives back and leaves in both buffers, and demand 3 of it (specs/, proofs/). It asks sizes and find_at in turn.
+use find_at::Finding;
 use layout::Parsed;
-use prelude::MOST_CODES;
 use prelude::MOST_SORTS;
-use prelude::MOST_SYMBOLS;
+use sizes::Sizing;
 ghost use mathlib.Core.Path.{_≡_};
 ghost use lib.ListN.{length};
-ghost use Rattle.logic.specs.Sheet.{Sheet};
-ghost use Rattle.tables.specs.Layout.{extent};
-ghost use Rattle.tables.specs.Parts.{Packs, Limited};
-ghost use Rattle.finder.specs.Find.{ceilings, finding, codesAfter, tablesAfter, Finds, ReadFrom};
-
-// The most bytes of tables that find can ask for: the sizes, and each symbol's table with as many rows and columns as there can be.
-pub const MOST_TABLES: usize = MOST_SORTS + MOST_SYMBOLS * MOST_CODES * MOST_CODES;
-
-// The answer to the question "find".
-pub enum Finding {
-    // the sum of the sizes
-    Found { sum: usize },
-    Refused { number: u8, place: usize },
-}
+ghost use Rattle.sheet.specs.Verdict.{ReadFrom};
+ghost use Rattle.finder.specs.Find.{finding, codesAfter, tablesAfter, Finds};
 
 // Find: the first answer to a sheet. It gives the sum of the sizes, or the refusal's number and place; the codes of the expressions stand in
 // front of `codes` and the tables in front of `tables`, and every other byte of both is as it was.
@@ -34,46 +22,27 @@ pub fn find(sheet: &[u8], codes: &mut [u8], tables: &mut [u8]) -> Finding
         return Finding::Refused { number, place };
     }
     let p = parsing.sheet;
-    find_parsed(p, codes, tables)
+    in_turn(p, codes, tables)
 }
 
-// Find, of a sheet that has been parsed: cause 10, then cause 11, then the answer.
-pub fn find_parsed(p: Parsed, codes: &mut [u8], tables: &mut [u8]) -> Finding
+// Find, of a sheet that has been parsed: cause 10, then the two questions in turn, sizes and find_at at these sizes.
+pub fn in_turn(p: Parsed, codes: &mut [u8], tables: &mut [u8]) -> Finding
     requires { ⌜ ReadFrom p ⌝ }
     ensures { λ r. ⌜ ((q : ReadFrom p) → Finds (q .bytes) (now (codes .entry)) (now (tables .entry)) (now (codes .exit)) (now (tables .exit)) r) ⌝ }
 {
-    if codes.len() < p.terms {
+    if find_at::are_short(p, codes.len(), tables.len()) {
         return Finding::Refused {
             number: 10,
             place: 0,
         };
     }
-    if tables.len() < longest(p) {
-        return Finding::Refused {
-            number: 10,
-            place: 0,
-        };
+    let mut sizes = [0u8; MOST_SORTS];
+    let sized = sizes::sizes_parsed(p, &mut sizes);
+    match sized {
+        Sizing::Refused { number, place } => Finding::Refused { number, place },
+        Sizing::Sized { .. } => {
+            let n = p.sorts;
+            find_at::find_at_parsed(p, &sizes[..n], codes, tables)
+        }
     }
-    let answer = search::search(p);
-    if !answer.found {
-        return Finding::Refused {
-            number: 11,
-            place: 0,
-        };
-    }
-    let sizes = answer.sizes;
-    let chosen = answer.codes;
-    let sum = writing::write_answer(p, sizes, chosen, codes, tables);
-    Finding::Found { sum }
-}
-
-// The length of the tables with every size at its ceiling.
-fn longest(p: Parsed) -> usize
-    requires { ⌜ Limited p ⌝ }
-    ensures { λ r. ⌜ ((sh : Sheet) → Packs sh p → r ≡ extent sh (ceilings sh)) ⌝ }
-{
-    let highest = p.ceiling;
-    let offsets = tables::extents(p, highest);
-    let end = p.symbols;
-    offsets[end]
 }

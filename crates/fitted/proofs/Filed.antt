@@ -19,9 +19,10 @@ use Rattle.prelude.specs.Lists.{fronted}
 use Rattle.answer.specs.Answer.{Entry, answer, sum, structureOf}
 use Rattle.answer.specs.Demand.{Hopeless}
 use Rattle.answer.proofs.Demand.{demand}
-use Rattle.finder.specs.Find.{ceilings, tablesAfter}
-use Rattle.finder.specs.declared.Finding.the-variants.{Found}
-use Rattle.finder.proofs.Buffers.{front-fronted, rest-fronted}
+use Rattle.find_at.specs.Found.{ceilings}
+use Rattle.finder.specs.Find.{tablesAfter}
+use Rattle.find_at.specs.declared.Finding.the-variants.{Found}
+use Rattle.prelude.proofs.Fronted.{front-fronted, rest-fronted}
 use Rattle.finder.proofs.Delivery.{exits, extended, written}
 use Rattle.fitted_sheet.specs.FittedSheet.{tooMany}
 use Rattle.fitted_sheet.specs.Kept.{fittedTo, Kept}

@@ -11,7 +11,7 @@ use Rattle.logic.specs.Sheet.{Sheet}
 use Rattle.layout.specs.Layout.{Reading, accepted, refused, reading}
 use Rattle.layout.specs.Encode.{encode}
 use Rattle.layout.proofs.Answers.{accepted-well-formed}
-use Rattle.finder.proofs.Buffers.{front-fronted}
+use Rattle.prelude.proofs.Fronted.{front-fronted}
 use Rattle.fitted_sheet.proofs.Keeping.{fitted-kept}
 use Rattle.fitted.specs.Filing.{Filing, filed, consider, outcome, bufferIn, bufferAfter}
 use Rattle.fitted.proofs.Filings.{branch}

@@ -24,12 +24,14 @@ use Rattle.answer.specs.Answer.{Entry, answer, structureOf}
 use Rattle.answer.specs.Demand.{Answers}
 use Rattle.answer.proofs.Lists.{found-or-none}
 use Rattle.answer.proofs.Demand.{demand}
-use Rattle.finder.specs.Find.{ceilings, Finds, ReadFrom}
-use Rattle.finder.specs.declared.Finding.{Finding}
-use Rattle.finder.specs.declared.Finding.the-variants.{Found, Refused}
+use Rattle.sheet.specs.Verdict.{ReadFrom}
+use Rattle.find_at.specs.Found.{ceilings}
+use Rattle.finder.specs.Find.{Finds}
+use Rattle.find_at.specs.declared.Finding.{Finding}
+use Rattle.find_at.specs.declared.Finding.the-variants.{Found, Refused}
 use Rattle.finder.proofs.Outcomes.{outcome-long}
 use Rattle.finder.proofs.Buffers.{exit}
-use Rattle.finder.proofs.Searching.{stands}
+use Rattle.judge.proofs.Questions.{read-packs}
 use Rattle.assembling.specs.Parts.{Source, SizesOf, OffsetsOf, TablesOf}
 use Rattle.fitted.specs.Parts.{Answered}
 
@@ -132,7 +134,7 @@ module _ (p : Parsed) (q : ReadFrom p) (cs ts cs′ ts′ : List ℕ) (r : Findi
             record {
               sheet = q .sheet;
               entry = z .0;
-              packs = stands p q;
+              packs = read-packs p q;
               answers = z .1 .answers;
               sum = cc;
               before = ts;

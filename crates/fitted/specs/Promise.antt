@@ -12,8 +12,9 @@ use Rattle.logic.specs.Sheet.{Sheet}
 use Rattle.layout.specs.Layout.{accepted, reading}
 use Rattle.tables.specs.Layout.{extent}
 use Rattle.answer.specs.Answer.{Entry, answer}
-use Rattle.finder.specs.Find.{ceilings, finding, tablesAfter}
-use Rattle.finder.specs.Promise.{tablesWritten}
+use Rattle.find_at.specs.Found.{ceilings}
+use Rattle.finder.specs.Find.{finding, tablesAfter}
+use Rattle.find_at.specs.Promise.{tablesWritten}
 use Rattle.fitted_sheet.specs.FittedSheet.{tooMany}
 use Rattle.fitted_sheet.specs.Kept.{fittedTo}
 use Rattle.fitted.specs.Filing.{bufferAfter}

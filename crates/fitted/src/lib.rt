@@ -1,6 +1,6 @@
 // The question "fitted": the tables that find gives for a sheet, written as a sheet of their own.
-use finder::Finding;
-use finder::MOST_TABLES;
+use find_at::Finding;
+use find_at::MOST_TABLES;
 use layout::Parsed;
 use prelude::MOST_TERMS;
 use prelude::MOST_WRITTEN_BYTES;
@@ -8,7 +8,7 @@ ghost use mathlib.Core.Path.{_≡_};
 ghost use Prim.Native.Nat.{_≤_};
 ghost use lib.ListN.{length};
 ghost use Rattle.prelude.specs.Limits.{mostWrittenBytes};
-ghost use Rattle.finder.specs.Find.{ReadFrom};
+ghost use Rattle.sheet.specs.Verdict.{ReadFrom};
 ghost use Rattle.fitted.specs.Filing.{fitting, bufferAfter, Files};
 ghost use Rattle.fitted.specs.Parts.{Answered, FilesAnswer};
 
@@ -48,7 +48,7 @@ fn file_answer(p: Parsed, out: &mut [u8]) -> Fitting
 {
     let mut codes = [0u8; MOST_TERMS];
     let mut tables = [0u8; MOST_TABLES];
-    let found = finder::find_parsed(p, &mut codes, &mut tables);
+    let found = finder::in_turn(p, &mut codes, &mut tables);
     match found {
         Finding::Refused { number, place } => Fitting::Refused { number, place },
         Finding::Found { sum } => file_tables(p, sum, &tables, out),

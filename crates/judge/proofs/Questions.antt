@@ -1,4 +1,4 @@
--- From a parsed sheet to the bytes: what the parser hands over decides judge and table of a name.
+-- From a parsed sheet to the bytes: it stands for the sheet that was read; and what the parser hands over decides judge and table of a name.
 use Prim.Native.Nat.{ℕ, _≤_}
 use native.Mathlib.Decide.{ℕ-discrete}
 use native.Mathlib.Omega.{arith}
@@ -6,9 +6,10 @@ use mathlib.Core.Path.{_≡_, refl, sym, _∙_, subst}
 use mathlib.Core.List.{List}
 use lib.ListN.{length}
 use Rattle.logic.specs.Sheet.{Sheet}
-use Rattle.layout.specs.Layout.{reading, empty}
+use Rattle.layout.specs.Layout.{reading, accepted, empty}
 use Rattle.layout.specs.Packed.{packed}
-use Rattle.sheet.specs.Verdict.{parsing}
+use Rattle.layout.specs.declared.Parsed.{Parsed}
+use Rattle.sheet.specs.Verdict.{parsing, ReadFrom}
 use Rattle.sheet.specs.declared.Parsing.{Parsing}
 use Rattle.layout.proofs.Answers.{accepted-well-formed}
 use Rattle.sheet.proofs.Verdicts.{Accepts, number-accepted, number-refused}
@@ -24,10 +25,16 @@ empty-limited : Limited (packed empty)
 unfolding packed
 empty-limited = omega arith
 
+-- the parsed sheet stands for the accepted one
+stands : (s : List ℕ) (sh : Sheet) (p : Parsed) → reading s ≡ accepted sh → p ≡ packed sh → Packs sh p
+stands s sh p reads same = record { formed = accepted-well-formed s sh reads; same = same }
+
+pub read-packs : (p : Parsed) (q : ReadFrom p) → Packs (q .sheet) p
+read-packs p q = stands (q .bytes) (q .sheet) p (q .reads) (q .same)
+
 module _ (s : List ℕ) (q : Parsing) (e : q ≡ parsing (reading s)) where
-  -- the parsed sheet stands for the accepted one
   pub parsed-packs : (a : Accepts s q) → Packs (a .sheet) (q .sheet)
-  parsed-packs a = record { formed = accepted-well-formed s (a .sheet) (a .reads); same = a .same }
+  parsed-packs a = stands s (a .sheet) (q .sheet) (a .reads) (a .same)
 
   pub parsed-limited : Limited (q .sheet)
   parsed-limited =

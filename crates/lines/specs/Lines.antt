@@ -1,5 +1,5 @@
--- Interface. The answer lines (docs/FORMAT.md, "Asking line by line"), one definition for each kind of answer; those that show bytes, of walk,
--- find and fitted, stand with their questions, in trails and replies.
+-- Interface. The answer lines (docs/FORMAT.md, "Asking line by line"), one definition for each kind of answer; those that show bytes stand with their
+-- questions: of walk in trails, of sizes in sizings, of find and findat in findings, of fitted in filings.
 use Prim.Native.Nat.{ℕ}
 use mathlib.Core.Bool.{cond}
 use mathlib.Core.List.{List, [], _∷_}

@@ -4,7 +4,6 @@ use Prim.Native.Nat.{ℕ, _≤_, _<_}
 use mathlib.Core.Path.{_≡_}
 use Rattle.prelude.specs.Lists.{sumTo}
 use Rattle.prelude.specs.Limits.{undecided}
-use Rattle.logic.specs.Order.{NotAfter}
 
 pub record Problem : Type 0 where
   pub sorts : ℕ
@@ -59,14 +58,6 @@ pub record Consistent (P : Problem) (size c : ℕ → ℕ) : Type 0 where
 -- no sizes that the sheet allows have consistent codes
 abbrev pub Unsatisfiable : Problem → Type 0
 Unsatisfiable P = (size c : ℕ → ℕ) → Allowed P size → Consistent P size c → ⊥
-
--- sizes and codes of an answer, and nothing comes earlier in sum, then sizes, then codes
-pub record Least (P : Problem) (size c : ℕ → ℕ) : Type 0 where
-  pub allowed : Allowed P size
-  pub consistent : Consistent P size c
-  pub sum : (size′ c′ : ℕ → ℕ) → Allowed P size′ → Consistent P size′ c′ → sumTo (P .sorts) size ≤ sumTo (P .sorts) size′
-  pub sizes : (size′ c′ : ℕ → ℕ) → Allowed P size′ → Consistent P size′ c′ → sumTo (P .sorts) size′ ≡ sumTo (P .sorts) size → NotAfter (P .sorts) size size′
-  pub codes : (c′ : ℕ → ℕ) → Consistent P size c′ → NotAfter (P .terms) c c′
 
 -- the codes c keep to what q decides; a term whose code is not decided has the number `undecided`, which is no code
 abbrev pub Extends : Problem → (ℕ → ℕ) → (ℕ → ℕ) → Type 0

@@ -2,4 +2,5 @@ pub mod Alone
 pub mod Refuted
 pub mod Fitted
 pub mod Walk
+pub mod Sizes
 pub mod Fills

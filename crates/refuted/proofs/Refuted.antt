@@ -31,14 +31,16 @@ use Rattle.group.specs.declared.Grouping.the-variants.{Group}
 use Rattle.group.proofs.Replies.{answer-exactly, number-named, number-small}
 use Rattle.group.proofs.NoPart.{answered-alike}
 use Rattle.group.proofs.Worked as group-worked
-use Rattle.finder.specs.Find.{turnedDown, ceilings, outcome}
+use Rattle.find_at.specs.Found.{turnedDown, ceilings}
+use Rattle.finder.specs.Find.{outcome}
 use Rattle.answer.specs.Answer.{Entry, answer}
 use Rattle.answer.specs.Demand.{Answers, Hopeless, Unreached, ToItself, Unfilled}
 use Rattle.answer.proofs.Rules.{answers-only, cell-of-term}
-use Rattle.finder.specs.Promise.{Delivered, codesWritten, tablesWritten}
+use Rattle.find_at.specs.Promise.{codesWritten, tablesWritten}
+use Rattle.finder.specs.Promise.{Delivered}
 use Rattle.worked.specs.Worked.{Row, row1, row2, row5, row13, Shows}
-use Rattle.finder.specs.declared.Finding.{Finding}
-use Rattle.finder.specs.declared.Finding.the-variants.{Found, Refused}
+use Rattle.find_at.specs.declared.Finding.{Finding}
+use Rattle.find_at.specs.declared.Finding.the-variants.{Found, Refused}
 use Rattle.worked.proofs.Worked.{sheetOf, worked}
 use Rattle.worked.proofs.EmptySheet.{empty-sheet}
 use Rattle.finder.proofs.Outcomes.{outcome-refused, outcome-short}

@@ -1,3 +1,4 @@
 pub mod WrongPrograms
 pub mod WrongFitted
 pub mod WrongWalk
+pub mod WrongSizes

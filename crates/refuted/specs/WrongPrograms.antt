@@ -26,12 +26,13 @@ use Rattle.congruence.specs.Forced.{Forced, SameStatements}
 use Rattle.group.specs.Grouping.{grouping}
 use Rattle.group.specs.declared.Grouping.{Grouping}
 use Rattle.group.specs.declared.Grouping.the-variants.{Group}
-use Rattle.finder.specs.Find.{ceilings, Finds}
-use Rattle.finder.specs.Promise.{tablesWritten}
+use Rattle.find_at.specs.Found.{ceilings}
+use Rattle.finder.specs.Find.{Finds}
+use Rattle.find_at.specs.Promise.{tablesWritten}
 use Rattle.answer.specs.Answer.{Entry, answer}
 use Rattle.answer.specs.Demand.{Hopeless, Unreached, ToItself, Unfilled}
-use Rattle.finder.specs.declared.Finding.{Finding}
-use Rattle.finder.specs.declared.Finding.the-variants.{Found, Refused}
+use Rattle.find_at.specs.declared.Finding.{Finding}
+use Rattle.find_at.specs.declared.Finding.the-variants.{Found, Refused}
 
 -- ---- FIND (demand 3)
 -- the result, and the code and the table buffer at exit, from the sheet's bytes and both buffers at entry

@@ -1,3 +1,2 @@
-pub mod Found
-pub mod Filed
+pub mod Verbs
 pub mod LineEnds

@@ -6,46 +6,33 @@ use lib.ListN.{length, take, getD}
 use lib.Dec.{ltb, eqb}
 use Rattle.prelude.specs.Tests.{sameList}
 use Rattle.text.specs.Ascii.{ascii}
-use Rattle.text.specs.Text.{answerLine, bytesLine}
 use Rattle.words.specs.Words.{wordAt}
-use Rattle.layout.specs.Encode.{encode}
-use Rattle.tables.specs.Layout.{encoded}
-use Rattle.answer.specs.Answer.{sum, structureOf}
-use Rattle.finder.specs.Find.{Outcome, turnedDown, answered, outcome}
-use Rattle.fitted.specs.Filing.{Filing, turnedDown as Filing·turnedDown, filed, outcome as Filing·outcome}
-use Rattle.lines.specs.Lines.{refusalLine, emptyLine, longLine, unknownLine}
-use Rattle.questions.specs.Questions.{bytesAt, numberAt, unlessWrong, readReply, judgeReply, forcedReply, groupReply, tableReply}
+use Rattle.lines.specs.Lines.{emptyLine, longLine, unknownLine}
+use Rattle.questions.specs.Questions.{readReply, judgeReply, forcedReply, groupReply, tableReply}
 use Rattle.trails.specs.Trails.{walkReply}
+use Rattle.sizings.specs.Sizings.{sizesReply}
+use Rattle.findings.specs.Findings.{findReply, findatReply}
+use Rattle.filings.specs.Filings.{fittedReply}
 
--- the answer line of find
-abbrev pub findLine : Outcome → List ℕ
-findLine (turnedDown number place) = refusalLine number place
-findLine (answered sh e) = answerLine (sum (e .sizes)) (e .codes) (encoded (structureOf sh e) sh)
+-- the answer by the verb, where it asks the search; and where it is any
+abbrev pub searchReply : List ℕ → List ℕ → List ℕ
+searchReply verb line =
+    cond (sameList verb (ascii "find")) (findReply line)
+    (cond (sameList verb (ascii "sizes")) (sizesReply line)
+    (cond (sameList verb (ascii "findat")) (findatReply line)
+    (cond (sameList verb (ascii "fitted")) (fittedReply line) unknownLine)))
 
--- find SHEET CODELEN TABLELEN
-unfoldable pub findReply : List ℕ → List ℕ
-findReply line = unlessWrong (ascii "bnn") line (findLine (outcome (bytesAt line 1) (numberAt line 2) (numberAt line 3)))
+unfoldable pub searched : List ℕ → List ℕ
+searched line = searchReply (wordAt line 0) line
 
--- the answer line of fitted
-abbrev pub fittedLine : Filing → List ℕ
-fittedLine (Filing·turnedDown number place) = refusalLine number place
-fittedLine (filed new) = bytesLine (ascii "sheet") (length (encode new)) (encode new)
-
--- fitted SHEET BUFLEN
-unfoldable pub fittedReply : List ℕ → List ℕ
-fittedReply line = unlessWrong (ascii "bn") line (fittedLine (Filing·outcome (bytesAt line 1) (numberAt line 2)))
-
--- the answer by the verb
 abbrev pub verbReply : List ℕ → List ℕ → List ℕ
 verbReply verb line =
     cond (sameList verb (ascii "read")) (readReply line)
-    (cond (sameList verb (ascii "find")) (findReply line)
     (cond (sameList verb (ascii "judge")) (judgeReply line)
     (cond (sameList verb (ascii "forced")) (forcedReply line)
     (cond (sameList verb (ascii "group")) (groupReply line)
-    (cond (sameList verb (ascii "fitted")) (fittedReply line)
     (cond (sameList verb (ascii "table")) (tableReply line)
-    (cond (sameList verb (ascii "walk")) (walkReply line) unknownLine)))))))
+    (cond (sameList verb (ascii "walk")) (walkReply line) (searched line))))))
 
 unfoldable pub asked : List ℕ → List ℕ
 asked line = verbReply (wordAt line 0) line

@@ -7,7 +7,7 @@ use mathlib.Core.List.{List}
 use Rattle.logic.specs.Sheet.{Sheet}
 use Rattle.layout.specs.Layout.{Reading, accepted, refused, reading, empty}
 use Rattle.layout.specs.Packed.{packed}
-use Rattle.sheet.specs.Verdict.{parsing, verdict}
+use Rattle.sheet.specs.Verdict.{parsing, verdict, ReadFrom}
 use Rattle.sheet.specs.declared.Parsing.{Parsing}
 use Rattle.sheet.specs.declared.Verdict.the-variants.{Accepted, Refused}
 use Rattle.layout.proofs.Answers.{refused-not}
@@ -41,6 +41,12 @@ module _ (s : List ℕ) (q : Parsing) (e : q ≡ parsing (reading s)) where
       go (refused n i) r =
           let q-is = e ∙ ap parsing r in
           record { reads = r ∙ sym (ap (λ (x : Parsing). refused (x .number) (x .place)) q-is); same = ap (λ (x : Parsing). x .sheet) q-is }
+
+  -- a sheet that is not refused was read from the bytes
+  unfoldable pub read-from : q .number ≡ 0 → ReadFrom (q .sheet)
+  read-from z =
+      let a = number-accepted z in
+      record { bytes = s; sheet = a .sheet; reads = a .reads; same = a .same }
 
   pub verdict-accepted : q .number ≡ 0 → Accepted ≡ verdict (reading s)
   unfolding verdict

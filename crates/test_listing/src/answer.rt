@@ -1,5 +1,5 @@
-// The answer of a drawn sheet by its listing: of all candidates that meet every literal the one with the first key, and of those
-// with that key the first tables, in which a cell that no term reaches holds 0.
+// The answer of a drawn sheet by its listing, and the one at given sizes: of all candidates, or of those of exactly these sizes, that meet every literal
+// the one with the first key, and of those with that key the first tables, in which a cell that no term reaches holds 0.
 use crate::keys::KEY;
 use crate::keys::first_broken;
 use crate::keys::key_of;
@@ -24,7 +24,7 @@ use test_sheets::plan::SORTS;
 use test_sheets::plan::count;
 use test_sheets::plan::record_at;
 
-// A sheet without an answer has a key that comes after every key.
+// Where there is no answer, the key is one that comes after every key.
 pub const NOTHING: u8 = 255;
 
 // Sizes are listed from 1 to one past floor and ceiling, so that some lie out of bounds.
@@ -53,10 +53,22 @@ pub fn list(p: [u8; PLAN], best: &mut [u8; ROOM]) -> [u8; KEY] {
     let n = lists(top);
     let mut key = [NOTHING; KEY];
     for v in 0..n {
-        let found = list_within(p, sizes_at(top, v), key, best);
+        let mut tables = [0u8; ROOM];
+        let mine = list_at(p, sizes_at(top, v), &mut tables);
+        let found = earlier(mine, &tables, key, best);
         key = found;
     }
     key
+}
+
+// Lists every candidate of exactly these sizes; gives the key of the first that meets every literal, and its tables in best.
+pub fn list_at(p: [u8; PLAN], size: [u8; MOST_SORTS], best: &mut [u8; ROOM]) -> [u8; KEY] {
+    if !within(p, size) {
+        return [NOTHING; KEY];
+    }
+    let mut limit = [0u8; ROOM];
+    let s = shaped(p, size, &mut limit);
+    list_shape(p, s, &limit, best)
 }
 
 fn top(p: [u8; PLAN], sort: usize) -> u8 {
@@ -76,30 +88,10 @@ fn count_at(p: [u8; PLAN], size: [u8; MOST_SORTS], bounded: bool) -> usize {
     s.count
 }
 
-fn list_within(
-    p: [u8; PLAN],
-    size: [u8; MOST_SORTS],
-    key: [u8; KEY],
-    best: &mut [u8; ROOM],
-) -> [u8; KEY] {
-    if !within(p, size) {
-        return key;
-    }
-    let mut limit = [0u8; ROOM];
-    let s = shaped(p, size, &mut limit);
-    list_at(p, s, &limit, key, best)
-}
-
-fn list_at(
-    p: [u8; PLAN],
-    s: Shape,
-    limit: &[u8; ROOM],
-    first: [u8; KEY],
-    best: &mut [u8; ROOM],
-) -> [u8; KEY] {
+fn list_shape(p: [u8; PLAN], s: Shape, limit: &[u8; ROOM], best: &mut [u8; ROOM]) -> [u8; KEY] {
     let n = s.count;
     let mut tables = first_tables(s);
-    let mut key = first;
+    let mut key = [NOTHING; KEY];
     for _ in 0..n {
         let found = kept(p, s, &tables, key, best);
         key = found;
@@ -108,7 +100,7 @@ fn list_at(
     key
 }
 
-// The key after these tables: theirs, where they meet every literal and their key comes before.
+// The key after these tables: the earlier one, where they meet every literal.
 fn kept(
     p: [u8; PLAN],
     s: Shape,
@@ -120,6 +112,16 @@ fn kept(
     if first_broken(p, mine) < count(p, LITERALS) {
         return key;
     }
+    earlier(mine, tables, key, best)
+}
+
+// The key of these tables, which then stand in best, where it comes before the other key, and else that one.
+fn earlier(
+    mine: [u8; KEY],
+    tables: &[u8; ROOM],
+    key: [u8; KEY],
+    best: &mut [u8; ROOM],
+) -> [u8; KEY] {
     if before(mine, key) {
         *best = *tables;
         return mine;

@@ -10,7 +10,7 @@ use test_sheets::plan::TERMS;
 use test_sheets::plan::count;
 use test_sheets::plan::record_at;
 
-pub const COUNTS: usize = 43;
+pub const COUNTS: usize = 56;
 
 // The counts, in the order of the report.
 pub const SHEETS: usize = 0;
@@ -93,11 +93,37 @@ pub const WALK_DAMAGED: usize = 38;
 
 pub const NO_WALK: usize = 39;
 
-pub const SECOND_FILL: usize = 40;
+pub const SIZED: usize = 40;
 
-pub const BEHIND_FILL: usize = 41;
+pub const NOT_SIZED: usize = 41;
 
-pub const DIFFERENCES: usize = 42;
+pub const SHORT_SIZED: usize = 42;
+
+pub const SIZE_LISTS: usize = 43;
+
+pub const FOUND_AT: usize = 44;
+
+pub const NONE_AT: usize = 45;
+
+pub const OUTSIDE: usize = 46;
+
+pub const WRONG_LIST: usize = 47;
+
+pub const SHORT_AT: usize = 48;
+
+pub const KEPT_AT: usize = 49;
+
+pub const FILLED_AT: usize = 50;
+
+pub const AGAINST_AT: usize = 51;
+
+pub const IN_TURN: usize = 52;
+
+pub const SECOND_FILL: usize = 53;
+
+pub const BEHIND_FILL: usize = 54;
+
+pub const DIFFERENCES: usize = 55;
 
 pub fn add(counts: &mut [u64; COUNTS], at: usize, n: usize) {
     let k = at % COUNTS;
@@ -146,8 +172,9 @@ pub fn report(counts: &[u64; COUNTS]) {
     let n = report_find(counts, report_sheets(counts, 0));
     let m = report_forced(counts, report_judge(counts, n));
     let k = report_fitted(counts, report_group(counts, m));
-    let l = report_fills(counts, report_walk(counts, k));
-    fill(b"differences #\n", counts, l);
+    let l = report_sizes(counts, report_walk(counts, k));
+    let r = report_fills(counts, report_find_at(counts, l));
+    fill(b"differences #\n", counts, r);
 }
 
 fn report_sheets(counts: &[u64; COUNTS], n: usize) -> usize {
@@ -201,6 +228,22 @@ fn report_fitted(counts: &[u64; COUNTS], n: usize) -> usize {
 fn report_walk(counts: &[u64; COUNTS], n: usize) -> usize {
     fill(
         b"walk: walks #\n- written #\n- codes written #\n- refused 10, a start past the end or too few bytes behind it #\n- refused 12, damaged tables #\n- refused 15 #\n",
+        counts,
+        n,
+    )
+}
+
+fn report_sizes(counts: &[u64; COUNTS], n: usize) -> usize {
+    fill(
+        b"sizes: given #\n- refused 11 #\n- refused 10, a buffer one byte short #\n",
+        counts,
+        n,
+    )
+}
+
+fn report_find_at(counts: &[u64; COUNTS], n: usize) -> usize {
+    fill(
+        b"find_at: lists of sizes #\n- found #\n- refused 11 #\n- refused 17, out of bounds #\n- refused 17, a size too many, too few, 0 or 17 #\n- refused 10, a buffer one byte short #\n- unforced cells that keep a code other than 0 #\n- unforced cells that hold a fill's code other than 0 #\n- unforced cells that keep their code against a fill #\n- at the sizes that sizes gives, what find gives #\n",
         counts,
         n,
     )

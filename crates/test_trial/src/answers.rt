@@ -1,6 +1,10 @@
-// Find and fitted, over one listing of the candidates, the unforced cells of its answer filled by the rule; and walks through the answer's tables.
+// Find, sizes and fitted, over one listing of the candidates, the unforced cells of its answer filled by the rule; find_at, over a listing for each list of
+// sizes; and walks through the answer's tables.
 use crate::finds;
 use crate::fits;
+use crate::found_at;
+use crate::sized;
+use crate::turns;
 use test_listing::answer::NOTHING;
 use test_listing::answer::list;
 use test_listing::keys::KEY;
@@ -25,8 +29,11 @@ pub(crate) fn compare(p: [u8; PLAN], sheet: &[u8], counts: &mut [u64; COUNTS]) {
     add(counts, FILLED, u.filled);
     add(counts, AGAINST, u.against);
     finds::compare(p, key, &best, sheet, counts);
+    sized::compare(p, key, sheet, counts);
+    found_at::compare(p, sheet, counts);
     fits::compare(p, key, &best, sheet, counts);
     if key[0] != NOTHING {
+        turns::compare(p, sheet, counts);
         walk_found(p, key, &best, sheet, counts);
     }
 }

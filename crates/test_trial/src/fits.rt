@@ -1,7 +1,7 @@
 // Fitted against the sheet that the test writes from the listing's answer, byte for byte, in buffers that are roomy, exact and too short; and find on
 // what fitted wrote, which is to give the old names the very same tables.
 use crate::buffers::written;
-use finder::Finding;
+use find_at::Finding;
 use fitted::Fitting;
 use sheet::Verdict;
 use test_listing::answer::NOTHING;

@@ -1,11 +1,16 @@
-// The sheet of zero bytes, sheets at the limits of fitted sheets, and random small sheets from a fixed seed. Find, judge, table of a name, walk, forced, group
-// and fitted are asked about each, and what they give is compared with a listing of all interpretations (crate test_listing); read and find are asked about
-// each sheet with a fill once more, with that fill out of place. The numbers printed are fixed by the seed; a difference is printed with its sheet.
-mod answers; // find and fitted, over one listing, and walk on its answer
+// The sheet of zero bytes, sheets at the limits of fitted sheets, and random small sheets from a fixed seed. Find, sizes, find_at, judge, table of a name, walk,
+// forced, group and fitted are asked about each, and what they give is compared with a listing of all interpretations (crate test_listing); read, find, sizes
+// and find_at are asked about each sheet with a fill once more, with that fill out of place. The numbers printed are fixed by the seed; a difference is printed
+// with its sheet.
+mod answers; // find, sizes, find_at and fitted, over the listing, and walk on its answer
 mod buffers; // what a buffer holds
-mod fills; // read and find are asked about a fill out of place
+mod fills; // read, find, sizes and find_at are asked about a fill out of place
 mod finds; // find is asked
 mod fits; // fitted is asked
+mod found_at; // find_at is asked
+mod lent; // what find and find_at are lent
+mod sized; // sizes is asked
+mod turns; // sizes and find_at are asked in turn
 
 use test_listing::answer;
 use test_listing::apart;

@@ -6,16 +6,18 @@ use mathlib.Core.Path.{_≡_, refl, ap, _∙_}
 use mathlib.Core.Bool.{Bool, true, false, cond}
 use mathlib.Core.Logic.{_↔_}
 use mathlib.Core.List.{List, [], _∷_}
-use mathlib.Core.Option.{some}
+use mathlib.Core.Option.{some, orElse}
 use lib.ListN.{length}
-use borrow.Author.Tests.{le-ltb}
-use Rattle.prelude.specs.Lists.{fronted}
+use lib.Dec.{eqb}
+use borrow.Author.Tests.{le-ltb, ne-eqb}
+use Rattle.prelude.specs.Lists.{at, fronted}
+use Rattle.prelude.proofs.Tests.{and-first}
 use Rattle.logic.specs.Structure.{Structure, codes}
 use Rattle.layout.specs.Layout.{empty}
 use Rattle.layout.proofs.Encoding.{nothing-read}
 use Rattle.layout.proofs.Written.{encode-empty}
-use Rattle.tables.specs.Layout.{WellLaid}
-use Rattle.tables.specs.Tests.{wellLaid}
+use Rattle.tables.specs.Layout.{decoded, WellLaid}
+use Rattle.tables.specs.Tests.{wellLaid, inBounds}
 use Rattle.tables.proofs.Laid.{well-laid-test}
 use Rattle.tables.specs.declared.Judgement.the-variants as judgements
 use Rattle.judge.specs.Judge.{Says, judgement, stretchOf, tableOf, nowhere}
@@ -23,8 +25,15 @@ use Rattle.judge.proofs.Judged.{judgement-says}
 use Rattle.forced.specs.Forcing.{forcing}
 use Rattle.forced.specs.declared.Forcing.the-variants as forcings
 use Rattle.group.proofs.Replies.{absent}
-use Rattle.answer.specs.Answer.{answer, solves}
+use Rattle.answer.specs.Answer.{answerAt, answer, solves}
+use Rattle.answer.specs.Demand.{CandidateSizes}
 use Rattle.answer.proofs.Demand.{accepted-demand}
+use Rattle.sizes.specs.Sizing.{sized as Sizing·sized}
+use Rattle.sizes.proofs.Outcomes.{Exit, exit, outcome-long as Sizing·outcome-long}
+use Rattle.find_at.specs.Found.{answered, turnedDown as Found·turnedDown, short as tooShort}
+use Rattle.find_at.specs.FindAt.{candidateSizes, codesAfterAt, tablesAfterAt}
+use Rattle.find_at.proofs.Outcomes.{not-short, outcome-at-long, outcome-at-wrong}
+use Rattle.find_at.proofs.Buffers.{ExitAt, exit-at}
 use Rattle.fitted_sheet.specs.FittedSheet.{fittedSheet}
 use Rattle.fitted.specs.Filing.{Filing, filed, outcome, fits, fitting, bufferIn, bufferAfter}
 use Rattle.fitted.specs.declared.Fitting.the-variants as fittings
@@ -39,7 +48,7 @@ use Rattle.worked.proofs.Worked.{worked}
 
 -- LAW: the answer of the sheet of zero bytes is found, without sizes and without codes
 pub empty-answer : answer empty ≡ some emptyEntry
-unfolding answer solves
+unfolding answer answerAt orElse solves
 empty-answer = refl
 
 one-candidate : (M : Structure) → OneCandidate M
@@ -64,6 +73,39 @@ row = worked .1 .1 .1 .1 .1 .1 .1 .1 .1 .1 .1 .1 .1 .1 .0
 
 shown : (cs ts : List ℕ) → Shown row15 cs ts
 shown cs ts = row .shown cs ts (omega arith) (omega arith)
+
+-- sizes: no sizes, of sum 0
+sized : (out : List ℕ) → Exit [] out (Sizing·sized [])
+sized out = exit [] out (Sizing·sized []) (Sizing·outcome-long [] empty (some emptyEntry) (length out) nothing-read (omega arith) empty-answer)
+
+-- find_at: the answer at no sizes, and 17 for any others
+empty-answer-at : answerAt empty [] ≡ some emptyEntry
+unfolding answerAt solves
+empty-answer-at = refl
+
+no-sizes : CandidateSizes empty []
+no-sizes = record { many = refl; bounded = one-candidate (decoded empty []) .candidate .bounded }
+
+roomy : (nc nt : ℕ) → tooShort empty nc nt ≡ false
+roomy nc nt = not-short empty nc nt (omega arith) (omega arith)
+
+answered-at : (cs ts : List ℕ) → ExitAt [] [] cs ts (answered empty emptyEntry)
+answered-at cs ts =
+    exit-at [] [] cs ts (answered empty emptyEntry)
+    (outcome-at-long [] [] (length cs) (length ts) empty nothing-read (roomy (length cs) (length ts)) no-sizes (some emptyEntry) empty-answer-at)
+
+wrong-number : (z : List ℕ) → (z ≡ [] → ⊥) → candidateSizes empty z ≡ false
+wrong-number [] longer = absurd (longer refl)
+wrong-number (x ∷ z) longer = and-first (eqb (length (x ∷ z)) 0) (inBounds empty (at (x ∷ z))) (ne-eqb (length (x ∷ z)) 0 (λ e. omega arith))
+
+refused-at : (z cs ts : List ℕ) → (z ≡ [] → ⊥) → ExitAt [] z cs ts (Found·turnedDown 17 0)
+refused-at z cs ts longer =
+    exit-at [] z cs ts (Found·turnedDown 17 0)
+    (outcome-at-wrong [] z (length cs) (length ts) empty nothing-read (roomy (length cs) (length ts)) (wrong-number z longer))
+
+at-sizes : (z cs ts : List ℕ) → (codesAfterAt [] z cs ts ≡ cs) × (tablesAfterAt [] z cs ts ≡ ts)
+at-sizes [] cs ts = (answered-at cs ts .codes, answered-at cs ts .tables)
+at-sizes (x ∷ z) cs ts = let r = refused-at (x ∷ z) cs ts (λ e. let y : _≡_ {A = ℕ} 0 1 = cc in omega arith) in (r .codes, r .tables)
 
 -- judge, by the theorem
 well-laid-none : (t : List ℕ) → WellLaid empty t → t ≡ []
@@ -151,6 +193,12 @@ empty-sheet =
       found = λ cs ts. shown cs ts .result;
       codes = λ cs ts. shown cs ts .codes;
       tables = λ cs ts. shown cs ts .tables;
+      sizes = λ out. sized out .result;
+      size-buffer = λ out. sized out .buffer;
+      found-at = λ cs ts. answered-at cs ts .result;
+      wrong-sizes = λ z cs ts longer. refused-at z cs ts longer .result;
+      codes-at = λ z cs ts. at-sizes z cs ts .0;
+      tables-at = λ z cs ts. at-sizes z cs ts .1;
       fits = fits-exactly;
       others = others-refused;
       forced = no-expression;

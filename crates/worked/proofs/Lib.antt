@@ -1,3 +1,4 @@
 pub mod Worked
 pub mod EmptySheet
 pub mod Walks
+pub mod AtSizes

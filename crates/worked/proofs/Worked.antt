@@ -5,15 +5,15 @@ use mathlib.Core.Path.{_≡_, refl, ap, sym, _∙_}
 use mathlib.Core.Bool.{true, false}
 use mathlib.Core.Logic.{_⊎_, inl, inr}
 use mathlib.Core.List.{List, [], _∷_}
-use mathlib.Core.Option.{Option, none}
+use mathlib.Core.Option.{Option, none, orElse}
 use lib.ListN.{length}
 use lib.Dec.{lit<}
 use native.Mathlib.Omega.{arith}
 use Rattle.logic.specs.Sheet.{Sheet, Bound, Symbol}
 use Rattle.layout.specs.Layout.{Reading, accepted, refused, empty, reading, readFrom, cause}
 use Rattle.tables.specs.Layout.{extent}
-use Rattle.answer.specs.Answer.{Entry, answer, solves, unforced}
-use Rattle.finder.specs.Find.{turnedDown, ceilings, answering, finds, codesIn, tablesIn}
+use Rattle.answer.specs.Answer.{Entry, answerAt, answer, solves, unforced}
+use Rattle.find_at.specs.Found.{turnedDown, ceilings, answering, finds, codesIn, tablesIn}
 use Rattle.worked.specs.Worked.{Row, row1, row2, row3, row4, row5, row6, row7, row8, row9, row10, row11, row12, row13, row14, row15, printed, filled, rows, Shown, Shows, All}
 use Rattle.answer.proofs.Solving.{Solution}
 use Rattle.answer.proofs.Listing.{unsolvable}
@@ -112,7 +112,7 @@ eleventh =
 
 -- THEOREM: the worked sheets
 pub worked : All Shows rows
-unfolding answer solves reading readFrom cause unforced
+unfolding answer answerAt orElse solves reading readFrom cause unforced
 worked = (
   plainly row1 refl refl refl refl (λ cs. refl) (λ ts. refl),
   (

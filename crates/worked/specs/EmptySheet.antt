@@ -20,7 +20,10 @@ use Rattle.group.specs.declared.Grouping.the-variants as groupings
 use Rattle.answer.specs.Answer.{Entry, answer}
 use Rattle.answer.specs.Demand.{Demand}
 use Rattle.finder.specs.Find.{finding, codesAfter, tablesAfter}
-use Rattle.finder.specs.declared.Finding.the-variants.{Found}
+use Rattle.find_at.specs.FindAt.{findingAt, codesAfterAt, tablesAfterAt}
+use Rattle.find_at.specs.declared.Finding.the-variants.{Found, Refused}
+use Rattle.sizes.specs.Sizing.{sizing, sizesAfter}
+use Rattle.sizes.specs.declared.Sizing.the-variants as sizings
 use Rattle.fitted.specs.Filing.{fitting, bufferAfter}
 use Rattle.fitted.specs.declared.Fitting.the-variants as fittings
 use Rattle.walk.specs.Walk.{walking, trailAfter}
@@ -50,6 +53,14 @@ pub record EmptySheet : Type 0 where
   pub found : (cs ts : List ℕ) → finding [] (length cs) (length ts) ≡ Found 0
   pub codes : (cs ts : List ℕ) → codesAfter [] cs ts ≡ cs
   pub tables : (cs ts : List ℕ) → tablesAfter [] cs ts ≡ ts
+  -- sizes gives sum 0 and leaves its buffer as it was, whatever it is
+  pub sizes : (out : List ℕ) → sizing [] (length out) ≡ sizings.Sized 0
+  pub size-buffer : (out : List ℕ) → sizesAfter [] out ≡ out
+  -- only the empty list of sizes is right, and with it find_at gives sum 0; any other is 17; both buffers stay as they were
+  pub found-at : (cs ts : List ℕ) → findingAt [] [] (length cs) (length ts) ≡ Found 0
+  pub wrong-sizes : (z cs ts : List ℕ) → (z ≡ [] → ⊥) → findingAt [] z (length cs) (length ts) ≡ Refused 17 0
+  pub codes-at : (z cs ts : List ℕ) → codesAfterAt [] z cs ts ≡ cs
+  pub tables-at : (z cs ts : List ℕ) → tablesAfterAt [] z cs ts ≡ ts
   -- judge passes exactly the tables of zero bytes and refuses all others with 12
   pub fits : (t : List ℕ) → (judgement [] t ≡ judgements.Fits) ↔ (t ≡ [])
   pub others : (t : List ℕ) → (t ≡ [] → ⊥) → judgement [] t ≡ judgements.Refused 12 0

@@ -7,8 +7,8 @@ use mathlib.Core.List.{List, [], _∷_, _++_}
 use lib.ListN.{length}
 use Rattle.layout.specs.Encode.{packet}
 use Rattle.finder.specs.Find.{finding, codesAfter, tablesAfter}
-use Rattle.finder.specs.declared.Finding.{Finding}
-use Rattle.finder.specs.declared.Finding.the-variants.{Found, Refused}
+use Rattle.find_at.specs.declared.Finding.{Finding}
+use Rattle.find_at.specs.declared.Finding.the-variants.{Found, Refused}
 use Rattle.prelude.specs.Lists.{fronted}
 
 pub record Row : Type 0 where

@@ -4,10 +4,10 @@ use native.Mathlib.Omega.{arith}
 use mathlib.Core.Path.{_≡_, ap, sym, _∙_}
 use mathlib.Core.List.{List, _++_}
 use lib.ListN.{length, take, drop}
-use lib.Seq.{take-length, length-take-le, getD-take, drop-drop, take-at, drop-append-add}
+use lib.Seq.{drop-drop, take-at, drop-append-add}
 use Rattle.logic.specs.Sheet.{Sheet}
 use Rattle.prelude.specs.Lists.{at, sumTo, firsts, fronted}
-use Rattle.prelude.proofs.Lists.{length-firsts, firsts-at, firsts-same}
+use Rattle.prelude.proofs.Lists.{length-firsts}
 use Rattle.layout.specs.declared.Parsed.{Parsed}
 use Rattle.tables.specs.Parts.{Packs}
 use Rattle.tables.proofs.Packing.{packs-views}
@@ -15,17 +15,6 @@ use Rattle.tables.proofs.Tables.{length-encoded}
 use Rattle.answer.specs.Answer.{entryOf, structureOf}
 use Rattle.writing.specs.Written.{AnswerWritten, answerBytes}
 use Rattle.answer.proofs.Listing.{sum-firsts}
-
--- the first entries of a list, as a part of it and as values
-firsts-take : (n : ℕ) (l : List ℕ) → n ≤ length l → firsts n (at l) ≡ take n l
-firsts-take n l h =
-    firsts-same n (at l) (at (take n l)) (λ i b. sym (getD-take n l i 0 b)) ∙ firsts-at n (take n l) (length-take-le n l h)
-
--- a copied front
-pub copied-front : (n : ℕ) (l buffer : List ℕ) → n ≤ length l → take (length (take n l)) (take n l) ++ drop (length (take n l)) buffer ≡ fronted (firsts n (at l)) buffer
-copied-front n l buffer h =
-    ap (λ (x : List ℕ). x ++ drop (length (take n l)) buffer) (take-length (take n l))
-    ∙ ap (λ (x : List ℕ). fronted x buffer) (sym (firsts-take n l h))
 
 -- what stood in front is covered by more bytes
 fronted-over : (s b d : List ℕ) → length s ≤ length b → fronted b (fronted s d) ≡ fronted b d

@@ -1,5 +1,5 @@
 -- `find::answer` meets its contract.
-use Rattle.finder.proofs.Searching.{read-from}
+use Rattle.sheet.proofs.Verdicts.{read-from}
 use Rattle.find.proofs.Stretches.{found-printable}
 use borrow.Author.Needs.{needs}
 use Rattle.find.proofs.answer.Statement.{statement}
@@ -17,8 +17,8 @@ same-length c = search needs
 returns : tie.Need-returns
 returns c = search needs
 
-find-parsed-requires : tie.Need-find-parsed-requires
-find-parsed-requires c κs =
+in-turn-requires : tie.Need-in-turn-requires
+in-turn-requires c κs =
     let m = c .before .before .before .before .before .before .before .before .before in
     let parsed = c .before .before .before .before .parse in
     read-from (m .args .sheet .now) (parsed .result) (parsed .ensures) (c .before .before .before .if1 .left)
@@ -37,7 +37,7 @@ print-answer-requires c κs =
     let m = c .before .before .before .before .before .before .before .before .before .before .before .before .before .before .before .before .before .before .before in
     let parsed = c .before .before .before .before .before .before .before .before .before .before .before .before .before .before .parse in
     let q = read-from (m .args .sheet .now) (parsed .result) (parsed .ensures) (c .before .before .before .before .before .before .before .before .before .before .before .before .before .if1 .left) in
-    let found = c .before .before .before .before .before .before .before .before .before .find-parsed in
+    let found = c .before .before .before .before .before .before .before .before .before .in-turn in
     (found-printable (parsed .result .sheet) q (m .args .codes .now) (m .args .tables .now) _ _ (found .result) _ (found .ensures q) (c .before .before .before .found2 .given .1), m .pre)
 
 same-length-2 : tie.Need-same-length-2
@@ -72,7 +72,7 @@ answer-spec =
     print-refusal-requires
     same-length
     returns
-    find-parsed-requires
+    in-turn-requires
     enum-known-found
     print-refusal-requires-2
     enum-known-found-2

@@ -3,8 +3,8 @@ use Prim.Native.Nat.{ℕ}
 use mathlib.Core.Path.{_≡_, ap, sym, _∙_}
 use lib.ListN.{length-replicate}
 use Rattle.layout.specs.Layout.{accepted}
-use Rattle.finder.specs.Find.{ReadFrom}
-use Rattle.finder.specs.declared.Finding.the-variants.{Found}
+use Rattle.sheet.specs.Verdict.{ReadFrom}
+use Rattle.find_at.specs.declared.Finding.the-variants.{Found}
 use Rattle.fitted.specs.Parts.{Answered}
 use Rattle.fitted.proofs.Sources.{report-refused, report-found}
 use Rattle.fitted.proofs.Filings.{none-files, answer-files}
@@ -13,17 +13,17 @@ use Rattle.fitted.proofs.file_answer.Statement.{statement}
 use Rattle.fitted.proofs.file_answer.Tie as tie
 
 -- what was found is the answer
-answered : (y : tie.After-find-parsed) (q : ReadFrom (y .before .before .before .before .args .p)) (n : ℕ) → y .find-parsed .result ≡ Found n → (a : Answered (y .before .before .before .before .args .p) n (y .find-parsed .last .1 .1 .0)) × (a .sheet ≡ q .sheet)
-answered y q n e = report-found (y .before .before .before .before .args .p) q _ _ _ _ (y .find-parsed .result) (length-replicate {A = ℕ} 128 0) (length-replicate {A = ℕ} 16392 0) (y .find-parsed .ensures q) n e
+answered : (y : tie.After-in-turn) (q : ReadFrom (y .before .before .before .before .args .p)) (n : ℕ) → y .in-turn .result ≡ Found n → (a : Answered (y .before .before .before .before .args .p) n (y .in-turn .last .1 .1 .0)) × (a .sheet ≡ q .sheet)
+answered y q n e = report-found (y .before .before .before .before .args .p) q _ _ _ _ (y .in-turn .result) (length-replicate {A = ℕ} 128 0) (length-replicate {A = ℕ} 16392 0) (y .in-turn .ensures q) n e
 
-slice-aggregate-find-parsed : tie.Need-slice-aggregate-find-parsed
-slice-aggregate-find-parsed c = search needs
+slice-aggregate-in-turn : tie.Need-slice-aggregate-in-turn
+slice-aggregate-in-turn c = search needs
 
-slice-aggregate-find-parsed-2 : tie.Need-slice-aggregate-find-parsed-2
-slice-aggregate-find-parsed-2 c = search needs
+slice-aggregate-in-turn-2 : tie.Need-slice-aggregate-in-turn-2
+slice-aggregate-in-turn-2 c = search needs
 
-find-parsed-requires : tie.Need-find-parsed-requires
-find-parsed-requires c κs = search needs
+in-turn-requires : tie.Need-in-turn-requires
+in-turn-requires c κs = search needs
 
 enum-known-found : tie.Need-enum-known-found
 enum-known-found c = search needs
@@ -44,7 +44,7 @@ returns : tie.Need-returns
 returns c q =
     let m = c .before .before .before .before .before .before .before .before .before in
     let y = c .before .before .before .before .before in
-    let x = report-refused (m .args .p) q _ _ _ _ (y .find-parsed .result) (length-replicate {A = ℕ} 128 0) (length-replicate {A = ℕ} 16392 0) (y .find-parsed .ensures q) _ _ (c .before .found .given .1) in
+    let x = report-refused (m .args .p) q _ _ _ _ (y .in-turn .result) (length-replicate {A = ℕ} 128 0) (length-replicate {A = ℕ} 16392 0) (y .in-turn .ensures q) _ _ (c .before .found .given .1) in
     none-files (q .bytes) (m .args .out .now) (q .sheet) _ _ (q .reads) (m .pre .1) (x .0) (x .1) (x .2)
 
 same-length : tie.Need-same-length
@@ -62,9 +62,9 @@ pub file-answer-spec : {M : Type 1} → statement M
 file-answer-spec =
     tie.close
     (tie.spec
-    slice-aggregate-find-parsed
-    slice-aggregate-find-parsed-2
-    find-parsed-requires
+    slice-aggregate-in-turn
+    slice-aggregate-in-turn-2
+    in-turn-requires
     enum-known-found
     enum-known-found-2
     slice-aggregate-file-tables

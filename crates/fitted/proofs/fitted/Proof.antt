@@ -1,7 +1,7 @@
 -- `fitted::fitted` meets its contract: a refusal of the sheet is the parser's, then the buffer is measured, and what was read goes on.
 use native.Mathlib.Omega.{arith}
-use Rattle.finder.specs.Find.{ReadFrom}
-use Rattle.finder.proofs.Searching.{read-from}
+use Rattle.sheet.specs.Verdict.{ReadFrom}
+use Rattle.sheet.proofs.Verdicts.{read-from}
 use Rattle.sheet.proofs.Verdicts.{number-refused}
 use Rattle.fitted.proofs.Filings.{outcome-refused, outcome-short, refusal-files}
 use borrow.Author.Needs.{needs}

@@ -5,7 +5,8 @@ use lib.Seq.{length-take-le}
 use Rattle.prelude.specs.Lists.{at}
 use Rattle.tables.specs.Parts.{Limited}
 use Rattle.writing.proofs.Writing.{limits, sizes-fit}
-use Rattle.writing.proofs.Answering.{copied-front, sizes-front, answer-written}
+use Rattle.prelude.proofs.Fronted.{copied-front}
+use Rattle.writing.proofs.Answering.{sizes-front, answer-written}
 use Rattle.writing.proofs.write_answer.Statement.{statement}
 use Rattle.writing.proofs.write_answer.Tie as tie
 

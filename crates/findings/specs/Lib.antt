@@ -1,0 +1,3 @@
+-- Findings is the interface; Parts serves the proofs.
+pub mod Findings
+pub mod Parts

@@ -1,0 +1,4 @@
+pub mod Outcomes
+pub mod Least
+pub mod Numbers
+pub mod Fills
