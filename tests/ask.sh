@@ -20,6 +20,9 @@ expect "the longest line with a carriage return" "refused 12 0" "accepted" < <(p
 expect "a line of a million characters" "? the line is too long" "accepted" < <(digits 1000000; printf '\nread -\n')
 expect "a sheet of 4,096 bytes is read" "refused 3 0" < <(printf 'read '; digits 8192; printf '\n')
 expect "a sheet of 4,097 bytes is not" "refused 1 0" < <(printf 'read '; digits 8194; printf '\n')
+expect "a payload of 4,096 bytes is read" "refused 3 4" < <(printf 'bundle 00100900'; digits 8192; printf ' 255\n')
+expect "the longest payload is not" "refused 1 4" < <(printf 'bundle ffff0900'; digits 131070; printf ' 255\n')
+expect "the longest payload, cut" "refused 18 0" < <(printf 'bundle ffff0900'; digits 131068; printf ' 255\n')
 # f of worked sheet 10 leads from 0 to 1 and from 1 to 0: so many times, in the longest line that there is
 walk='walk 020001000110010002000002000200000001000300000200030001000200030001010200040000020200050000010100060010 02000100 0 0 '
 events() {

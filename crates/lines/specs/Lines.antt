@@ -1,5 +1,5 @@
--- Interface. The answer lines (docs/FORMAT.md, "Asking line by line"), one definition for each kind of answer; those that show bytes stand with their
--- questions: of walk in trails, of sizes in sizings, of find and findat in findings, of fitted in filings.
+-- Interface. The answer lines (docs/FORMAT.md, "Asking line by line") of what is wrong with a line, and of read, judge, forced, group and table of a name. The
+-- others stand with their questions: of walk in trails, of sizes in sizings, of find and findat in findings, of fitted in filings, of bundle in bundlings.
 use Prim.Native.Nat.{ℕ}
 use mathlib.Core.Bool.{cond}
 use mathlib.Core.List.{List, [], _∷_}
@@ -7,7 +7,7 @@ use lib.Dec.{eqb}
 use Rattle.text.specs.Ascii.{ascii}
 use Rattle.text.specs.Text.{line, refusedWord}
 use Rattle.words.specs.declared.Complaint.{Complaint}
-use Rattle.words.specs.declared.Complaint.the-variants.{Nothing, TooFew, TooMany, NotHexadecimal, OddDigits, NotNumber}
+use Rattle.words.specs.declared.Complaint.the-variants.{Nothing, TooFew, TooMany, NotHexadecimal, OddDigits, NotNumber, AboveByte}
 use Rattle.sheet.specs.declared.Verdict.{Verdict}
 use Rattle.sheet.specs.declared.Verdict.the-variants.{Accepted, Refused as Verdict·Refused}
 use Rattle.tables.specs.declared.Judgement.{Judgement}
@@ -42,6 +42,7 @@ complaintLine TooMany = plainLine (ascii "? too many words")
 complaintLine (NotHexadecimal k) = line (ascii "? not hexadecimal: word") (k ∷ [])
 complaintLine (OddDigits k) = line (ascii "? an odd number of hexadecimal digits: word") (k ∷ [])
 complaintLine (NotNumber k) = line (ascii "? not a number: word") (k ∷ [])
+complaintLine (AboveByte k) = line (ascii "? above 255: word") (k ∷ [])
 
 -- read
 abbrev pub verdictLine : Verdict → List ℕ

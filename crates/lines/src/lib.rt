@@ -25,6 +25,7 @@ pub fn complaint_line(out: &mut [u8], c: Complaint) -> usize
             text::number_line(out, b"? an odd number of hexadecimal digits: word", k)
         }
         Complaint::NotNumber(k) => text::number_line(out, b"? not a number: word", k),
+        Complaint::AboveByte(k) => text::number_line(out, b"? above 255: word", k),
     }
 }
 

@@ -26,7 +26,7 @@ bytesAt line k = bytesOf (wordAt line k)
 abbrev pub numberAt : List ℕ → ℕ → ℕ
 numberAt line k = numberOf (wordAt line k)
 
--- a line whose words behind the verb are of these kinds, `b` for bytes and `n` for a number, has this answer; any other a complaint
+-- a line whose words behind the verb are of these kinds, `b` for bytes, `n` for a number and `l` for a limit, has this answer; any other a complaint
 abbrev pub unlessWrong : List ℕ → List ℕ → List ℕ → List ℕ
 unlessWrong kinds line answer = cond (isWrong (complaintOf kinds line)) (complaintLine (complaintOf kinds line)) answer
 

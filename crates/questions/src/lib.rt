@@ -1,5 +1,5 @@
-// The questions of `ask` whose answers show no bytes: read, judge, forced, group and table of a name, one function for each verb (walk stands in trails,
-// sizes in sizings, find and findat in findings, fitted in filings).
+// The questions of `ask` that lend no buffer and ask no search: read, judge, forced, group and table of a name, one function for each verb (walk stands in
+// trails, sizes in sizings, find and findat in findings, fitted in filings, bundle in bundlings).
 // Each answers a line that has its verb, in front of a lent buffer, and gives the answer line's length.
 use lines::complaint_line;
 use lines::forcing_line;

@@ -13,6 +13,7 @@ use Rattle.trails.specs.Trails.{walkReply}
 use Rattle.sizings.specs.Sizings.{sizesReply}
 use Rattle.findings.specs.Findings.{findReply, findatReply}
 use Rattle.filings.specs.Filings.{fittedReply}
+use Rattle.bundlings.specs.Bundlings.{bundleReply}
 
 -- the answer by the verb, where it asks the search; and where it is any
 abbrev pub searchReply : List ℕ → List ℕ → List ℕ
@@ -20,7 +21,8 @@ searchReply verb line =
     cond (sameList verb (ascii "find")) (findReply line)
     (cond (sameList verb (ascii "sizes")) (sizesReply line)
     (cond (sameList verb (ascii "findat")) (findatReply line)
-    (cond (sameList verb (ascii "fitted")) (fittedReply line) unknownLine)))
+    (cond (sameList verb (ascii "fitted")) (fittedReply line)
+    (cond (sameList verb (ascii "bundle")) (bundleReply line) unknownLine))))
 
 unfoldable pub searched : List ℕ → List ℕ
 searched line = searchReply (wordAt line 0) line

@@ -1,4 +1,5 @@
 // What `ask` prints for a line, whatever the line is: by its verb, the reply of the question.
+use bundlings::bundle_question;
 use filings::fitted_question;
 use findings::find_question;
 use findings::findat_question;
@@ -94,6 +95,9 @@ fn answer_searched(line: &[u8], out: &mut [u8]) -> usize
     }
     if same(verb, b"fitted") {
         return fitted_question(line, out);
+    }
+    if same(verb, b"bundle") {
+        return bundle_question(line, out);
     }
     text::put(out, 0, b"? unknown verb\n")
 }

@@ -4,6 +4,7 @@
 // the listing is right rests on its being plain.
 pub mod answer; // the answer of a sheet, and that at given sizes: the first candidate, before its unforced cells are filled
 pub mod apart; // which terms an interpretation tells apart
+pub mod bundles; // what a bundle of sheets is to give
 pub mod fitted; // the answer's fitted sheet
 pub mod keys; // what terms and literals say under one interpretation
 pub mod ranges; // lists of sizes

@@ -10,7 +10,7 @@ use test_sheets::plan::TERMS;
 use test_sheets::plan::count;
 use test_sheets::plan::record_at;
 
-pub const COUNTS: usize = 56;
+pub const COUNTS: usize = 68;
 
 // The counts, in the order of the report.
 pub const SHEETS: usize = 0;
@@ -123,7 +123,31 @@ pub const SECOND_FILL: usize = 53;
 
 pub const BEHIND_FILL: usize = 54;
 
-pub const DIFFERENCES: usize = 55;
+pub const BUNDLES: usize = 55;
+
+pub const BUNDLED: usize = 56;
+
+pub const SHARED: usize = 57;
+
+pub const EXCEEDED: usize = 58;
+
+pub const NONE_IN: usize = 59;
+
+pub const SHORT_SHEET: usize = 60;
+
+pub const OVER: usize = 61;
+
+pub const REVERSED: usize = 62;
+
+pub const PADDED: usize = 63;
+
+pub const REPLACED: usize = 64;
+
+pub const NO_BUNDLE: usize = 65;
+
+pub const CUT_BUNDLE: usize = 66;
+
+pub const DIFFERENCES: usize = 67;
 
 pub fn add(counts: &mut [u64; COUNTS], at: usize, n: usize) {
     let k = at % COUNTS;
@@ -174,7 +198,8 @@ pub fn report(counts: &[u64; COUNTS]) {
     let k = report_fitted(counts, report_group(counts, m));
     let l = report_sizes(counts, report_walk(counts, k));
     let r = report_fills(counts, report_find_at(counts, l));
-    fill(b"differences #\n", counts, r);
+    let b = report_bundle(counts, r);
+    fill(b"differences #\n", counts, b);
 }
 
 fn report_sheets(counts: &[u64; COUNTS], n: usize) -> usize {
@@ -252,6 +277,14 @@ fn report_find_at(counts: &[u64; COUNTS], n: usize) -> usize {
 fn report_fills(counts: &[u64; COUNTS], n: usize) -> usize {
     fill(
         b"fills: a second one, refused 16 #\n- a statement behind one, refused 3 #\n",
+        counts,
+        n,
+    )
+}
+
+fn report_bundle(counts: &[u64; COUNTS], n: usize) -> usize {
+    fill(
+        b"bundle: bundles #\n- sheets in them #\n- sums and what is left #\n- refused 19 #\n- refused 11 at its sheet #\n- refused 2 or 9, a sheet without its last byte or its total #\n- refused 11, 2 or 9, the sums before it above the limit #\n- in reverse order, the same left #\n- with sheets of zero bytes behind, the same left #\n- a sheet replaced, the other sums as they were #\n- refused 18, no record or a ninth #\n- refused 18, a record cut short or of another kind #\n",
         counts,
         n,
     )

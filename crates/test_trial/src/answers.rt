@@ -1,5 +1,5 @@
 // Find, sizes and fitted, over one listing of the candidates, the unforced cells of its answer filled by the rule; find_at, over a listing for each list of
-// sizes; and walks through the answer's tables.
+// sizes; and walks through the answer's tables. Gives the answer's sum, NOTHING where there is none.
 use crate::finds;
 use crate::fits;
 use crate::found_at;
@@ -20,7 +20,7 @@ use test_questions::tally::add;
 use test_questions::walks;
 use test_sheets::plan::PLAN;
 
-pub(crate) fn compare(p: [u8; PLAN], sheet: &[u8], counts: &mut [u64; COUNTS]) {
+pub(crate) fn compare(p: [u8; PLAN], sheet: &[u8], counts: &mut [u64; COUNTS]) -> u8 {
     let mut best = [0u8; ROOM];
     let key = list(p, &mut best);
     let u = fill_tables(p, key, &mut best);
@@ -36,6 +36,7 @@ pub(crate) fn compare(p: [u8; PLAN], sheet: &[u8], counts: &mut [u64; COUNTS]) {
         turns::compare(p, sheet, counts);
         walk_found(p, key, &best, sheet, counts);
     }
+    key[0]
 }
 
 // Four walks through the tables that find gives.

@@ -3,6 +3,7 @@ use Prim.Native.Nat.{ℕ, zero, suc, _+_, _/_, _%_}
 use mathlib.Core.Bool.{true, false, cond}
 use mathlib.Core.List.{List, [], _∷_, _++_}
 use lib.Dec.{ltb}
+use Rattle.text.specs.Ascii.{ascii}
 
 -- the decimal digits of a number, at most k of them
 abbrev pub digits : ℕ → ℕ → List ℕ
@@ -40,6 +41,10 @@ nameWord = 110 ∷ 97 ∷ 109 ∷ 101 ∷ []
 -- a line: a word, and numbers after it
 abbrev pub line : List ℕ → List ℕ → List ℕ
 line word ns = word ++ (spaced ns ++ lineFeed)
+
+-- the line of a bundle's answer: the sums, and what is left of the limit
+abbrev pub sumsLine : List ℕ → ℕ → List ℕ
+sumsLine sums left = ascii "sums" ++ (spaced sums ++ line (ascii " left") (left ∷ []))
 
 -- a digit below 16 as a character: `0` to `9`, then `a` to `f`
 abbrev pub hexDigit : ℕ → ℕ

@@ -4,7 +4,7 @@ ghost use mathlib.Core.List.{[], _∷_};
 ghost use Prim.Native.Nat.{_+_, _*_, _≤_, _<_};
 ghost use lib.ListN.{length};
 ghost use Rattle.prelude.specs.Pasted.{Wrote};
-ghost use Rattle.text.specs.Text.{decimal, spaced, line, hexDigit, hex, shown, bytesLine, answerLine, foundWord, refusedWord, fieldWord, nameWord};
+ghost use Rattle.text.specs.Text.{decimal, spaced, line, sumsLine, hexDigit, hex, shown, bytesLine, answerLine, foundWord, refusedWord, fieldWord, nameWord};
 
 // The line `found S` of an answer, S being the sum of the sizes: its length, and its bytes at the front of the buffer.
 pub fn found_line(out: &mut [u8], sum: usize) -> usize
@@ -50,6 +50,18 @@ pub fn symbol_line(out: &mut [u8], symbol: usize, cells: &[u8]) -> usize
     let at = put(out, 0, b"name");
     let at = put_spaced(out, at, symbol);
     let at = put_cells(out, at, cells);
+    put(out, at, b"\n")
+}
+
+// The line `sums S S .. left L` of a bundle's answer.
+pub fn sums_line(out: &mut [u8], sums: &[u8], left: usize) -> usize
+    requires { ⌜ (2048 ≤ length (now out)) × (length (now sums) ≤ 256) ⌝ }
+    ensures { λ r. ⌜ Wrote (now (out .entry)) 0 (sumsLine (now (sums .entry)) left) (now (out .exit)) r ⌝ }
+{
+    let at = put(out, 0, b"sums");
+    let at = put_cells(out, at, sums);
+    let at = put(out, at, b" left");
+    let at = put_spaced(out, at, left);
     put(out, at, b"\n")
 }
 

@@ -5,9 +5,9 @@ use mathlib.Core.List.{List, [], _∷_}
 use lib.ListN.{length}
 use lib.Dec.{ltb, eqb}
 use Rattle.prelude.specs.Tests.{sameList}
-use Rattle.words.specs.Words.{wordAt, many, isNumeral}
+use Rattle.words.specs.Words.{wordAt, many, isNumeral, numberOf}
 use Rattle.words.specs.declared.Complaint.{Complaint}
-use Rattle.words.specs.declared.Complaint.the-variants.{Nothing, TooFew, TooMany, NotHexadecimal, OddDigits, NotNumber}
+use Rattle.words.specs.declared.Complaint.the-variants.{Nothing, TooFew, TooMany, NotHexadecimal, OddDigits, NotNumber, AboveByte}
 
 abbrev pub isWrong : Complaint → Bool
 isWrong Nothing = false
@@ -16,6 +16,7 @@ isWrong TooMany = true
 isWrong (NotHexadecimal k) = true
 isWrong (OddDigits k) = true
 isWrong (NotNumber k) = true
+isWrong (AboveByte k) = true
 
 -- the first of two complaints that is one
 abbrev pub orElse : Complaint → Complaint → Complaint
@@ -25,7 +26,7 @@ orElse c d = cond (isWrong c) c d
 abbrev pub dash : List ℕ
 dash = 45 ∷ []
 
--- what is wrong with word k where bytes are asked, and where a number is
+-- what is wrong with word k where bytes are asked, where a number is, and where a limit is: a number that a byte holds
 unfoldable pub wrongBytes : ℕ → List ℕ → Complaint
 wrongBytes k word =
     cond (sameList word dash) Nothing
@@ -34,9 +35,17 @@ wrongBytes k word =
 unfoldable pub wrongNumber : ℕ → List ℕ → Complaint
 wrongNumber k word = cond (isNumeral 10 word) Nothing (NotNumber k)
 
--- a kind is `b` for bytes, and any other for a number
+abbrev pub greatestLimit : ℕ
+greatestLimit = 255
+
+unfoldable pub wrongLimit : ℕ → List ℕ → Complaint
+wrongLimit k word =
+    cond (isNumeral 10 word) (cond (ltb greatestLimit (numberOf word)) (AboveByte k) Nothing) (NotNumber k)
+
+-- a kind is `b` for bytes, `l` for a limit, and any other for a number
 unfoldable pub wrongWord : ℕ → ℕ → List ℕ → Complaint
-wrongWord kind k word = cond (eqb kind 98) (wrongBytes k word) (wrongNumber k word)
+wrongWord kind k word =
+    cond (eqb kind 98) (wrongBytes k word) (cond (eqb kind 108) (wrongLimit k word) (wrongNumber k word))
 
 -- the first complaint on the words from the one with index k on, word 1 being that with index 0
 abbrev pub wrongWords : List ℕ → ℕ → List ℕ → Complaint

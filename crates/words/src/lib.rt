@@ -4,7 +4,10 @@ ghost use Prim.Native.Nat.{_+_, _*_, _≤_, _<_, min};
 ghost use lib.ListN.{length, drop};
 ghost use Rattle.prelude.specs.Tests.{sameList};
 ghost use Rattle.words.specs.Words.{laterWords, wordAt, many, digitOf, isNumeral, numberOf, largest, Decoded};
-ghost use Rattle.words.specs.Complaints.{isWrong, wrongBytes, wrongNumber, wrongWord, wrongWords, complaintOf};
+ghost use Rattle.words.specs.Complaints.{isWrong, wrongBytes, wrongNumber, wrongLimit, wrongWord, wrongWords, complaintOf};
+
+// The greatest limit.
+const GREATEST_LIMIT: usize = 255;
 
 // What is wrong with the words of a question; a word is named by its place, the verb being word 1.
 pub enum Complaint {
@@ -14,6 +17,7 @@ pub enum Complaint {
     NotHexadecimal(usize),
     OddDigits(usize),
     NotNumber(usize),
+    AboveByte(usize),
 }
 
 // Word k of a line, the first being word 0; empty where the line has fewer.
@@ -31,7 +35,8 @@ pub fn word<'a>(line: &'a [u8], k: usize) -> &'a [u8]
     &line[from..end]
 }
 
-// What is wrong with the words of a line, whose kinds behind the verb are given: `b` for bytes, `n` for a number.
+// What is wrong with the words of a line, whose kinds behind the verb are given: `b` for bytes, `n` for a number, `l` for a
+// limit, which is a number from 0 to 255.
 pub fn wrong_with(line: &[u8], kinds: &[u8]) -> Complaint
     ensures { λ r. ⌜ r ≡ complaintOf (now (kinds .entry)) (now (line .entry)) ⌝ }
 {
@@ -56,6 +61,7 @@ pub fn is_wrong(c: Complaint) -> bool
         Complaint::NotHexadecimal(_) => true,
         Complaint::OddDigits(_) => true,
         Complaint::NotNumber(_) => true,
+        Complaint::AboveByte(_) => true,
     }
 }
 
@@ -197,12 +203,28 @@ fn wrong_number(k: usize, word: &[u8]) -> Complaint
     Complaint::NotNumber(k)
 }
 
+// What is wrong with word k where a limit is asked.
+fn wrong_limit(k: usize, word: &[u8]) -> Complaint
+    ensures { λ r. ⌜ r ≡ wrongLimit k (now (word .entry)) ⌝ }
+{
+    if !numeral(word, 10) {
+        return Complaint::NotNumber(k);
+    }
+    if GREATEST_LIMIT < number(word) {
+        return Complaint::AboveByte(k);
+    }
+    Complaint::Nothing
+}
+
 // What is wrong with word k where this kind is asked.
 fn wrong_word(kind: u8, k: usize, word: &[u8]) -> Complaint
     ensures { λ r. ⌜ r ≡ wrongWord kind k (now (word .entry)) ⌝ }
 {
     if kind == b'b' {
         return wrong_bytes(k, word);
+    }
+    if kind == b'l' {
+        return wrong_limit(k, word);
     }
     wrong_number(k, word)
 }

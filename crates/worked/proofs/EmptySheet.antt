@@ -1,5 +1,5 @@
 -- The sheet of zero bytes: what find does is its row of the worked sheets, and what judge says is a row of the theorem about every accepted sheet.
-use Prim.Native.Nat.{ℕ, _+_, _≤_, _<_}
+use Prim.Native.Nat.{ℕ, _+_, _-_, _≤_, _<_}
 use native.Mathlib.Decide.{decLt}
 use native.Mathlib.Omega.{arith}
 use mathlib.Core.Path.{_≡_, refl, ap, _∙_}
@@ -7,7 +7,7 @@ use mathlib.Core.Bool.{Bool, true, false, cond}
 use mathlib.Core.Logic.{_↔_}
 use mathlib.Core.List.{List, [], _∷_}
 use mathlib.Core.Option.{some, orElse}
-use lib.ListN.{length}
+use lib.ListN.{length, replicate}
 use lib.Dec.{eqb}
 use borrow.Author.Tests.{le-ltb, ne-eqb}
 use Rattle.prelude.specs.Lists.{at, fronted}
@@ -34,6 +34,12 @@ use Rattle.find_at.specs.Found.{answered, turnedDown as Found·turnedDown, shor
 use Rattle.find_at.specs.FindAt.{candidateSizes, codesAfterAt, tablesAfterAt}
 use Rattle.find_at.proofs.Outcomes.{not-short, outcome-at-long, outcome-at-wrong}
 use Rattle.find_at.proofs.Buffers.{ExitAt, exit-at}
+use Rattle.sizes.specs.declared.Sizing.{Sizing}
+use Rattle.bundle.specs.Bundle.{mostSheets, partsFrom, parts, summed, joined, summing, refusal, gives, bundling}
+use Rattle.bundle.specs.Written.{bundleOf}
+use Rattle.bundle.specs.declared.Stock.the-variants.{Left}
+use Rattle.bundle.proofs.Smallest.{smallest-accepted}
+use Rattle.bundle.proofs.Summing.{sharing-within}
 use Rattle.fitted_sheet.specs.FittedSheet.{fittedSheet}
 use Rattle.fitted.specs.Filing.{Filing, filed, outcome, fits, fitting, bufferIn, bufferAfter}
 use Rattle.fitted.specs.declared.Fitting.the-variants as fittings
@@ -106,6 +112,18 @@ refused-at z cs ts longer =
 at-sizes : (z cs ts : List ℕ) → (codesAfterAt [] z cs ts ≡ cs) × (tablesAfterAt [] z cs ts ≡ ts)
 at-sizes [] cs ts = (answered-at cs ts .codes, answered-at cs ts .tables)
 at-sizes (x ∷ z) cs ts = let r = refused-at (x ∷ z) cs ts (λ e. let y : _≡_ {A = ℕ} 0 1 = cc in omega arith) in (r .codes, r .tables)
+
+-- bundle: no part, and one part of zero bytes, whose own sum is 0
+bundled-none : (limit : ℕ) → bundling [] limit ≡ refusal 18 0
+unfolding bundling parts partsFrom
+bundled-none limit = refl
+
+bundled-alone : (limit : ℕ) → bundling (bundleOf ([] ∷ [])) limit ≡ record { sums = replicate mostSheets 0; stock = Left limit }
+unfolding bundling summing parts partsFrom bundleOf
+bundled-alone limit =
+    ap (λ (x : Sizing). gives limit (joined 4 x (summed []))) (smallest-accepted [] empty (some emptyEntry) nothing-read empty-answer)
+    ∙ sharing-within limit (0 ∷ []) (omega arith)
+    ∙ ap (λ (left : ℕ). record { sums = replicate mostSheets 0; stock = Left left }) (let same : limit - 0 ≡ limit = omega arith in same)
 
 -- judge, by the theorem
 well-laid-none : (t : List ℕ) → WellLaid empty t → t ≡ []
@@ -199,6 +217,8 @@ empty-sheet =
       wrong-sizes = λ z cs ts longer. refused-at z cs ts longer .result;
       codes-at = λ z cs ts. at-sizes z cs ts .0;
       tables-at = λ z cs ts. at-sizes z cs ts .1;
+      no-bundle = bundled-none;
+      bundle-alone = bundled-alone;
       fits = fits-exactly;
       others = others-refused;
       forced = no-expression;

@@ -3,9 +3,9 @@
 use Prim.Native.Nat.{ℕ, _+_, _≤_, _<_}
 use mathlib.Core.Path.{_≡_}
 use mathlib.Core.Logic.{_↔_}
-use mathlib.Core.List.{List, []}
+use mathlib.Core.List.{List, [], _∷_}
 use mathlib.Core.Option.{some}
-use lib.ListN.{length}
+use lib.ListN.{length, replicate}
 use Rattle.prelude.specs.Limits.{mostWrittenBytes}
 use Rattle.logic.specs.Structure.{Structure, Candidate, Satisfies, codes}
 use Rattle.logic.specs.Order.{sizesOf, sumOf}
@@ -24,6 +24,9 @@ use Rattle.find_at.specs.FindAt.{findingAt, codesAfterAt, tablesAfterAt}
 use Rattle.find_at.specs.declared.Finding.the-variants.{Found, Refused}
 use Rattle.sizes.specs.Sizing.{sizing, sizesAfter}
 use Rattle.sizes.specs.declared.Sizing.the-variants as sizings
+use Rattle.bundle.specs.Bundle.{mostSheets, refusal, bundling}
+use Rattle.bundle.specs.Written.{bundleOf}
+use Rattle.bundle.specs.declared.Stock.the-variants.{Left}
 use Rattle.fitted.specs.Filing.{fitting, bufferAfter}
 use Rattle.fitted.specs.declared.Fitting.the-variants as fittings
 use Rattle.walk.specs.Walk.{walking, trailAfter}
@@ -61,6 +64,9 @@ pub record EmptySheet : Type 0 where
   pub wrong-sizes : (z cs ts : List ℕ) → (z ≡ [] → ⊥) → findingAt [] z (length cs) (length ts) ≡ Refused 17 0
   pub codes-at : (z cs ts : List ℕ) → codesAfterAt [] z cs ts ≡ cs
   pub tables-at : (z cs ts : List ℕ) → tablesAfterAt [] z cs ts ≡ ts
+  -- zero bytes are no bundle; in a bundle the sheet spends nothing, whatever the limit
+  pub no-bundle : (limit : ℕ) → bundling [] limit ≡ refusal 18 0
+  pub bundle-alone : (limit : ℕ) → bundling (bundleOf ([] ∷ [])) limit ≡ record { sums = replicate mostSheets 0; stock = Left limit }
   -- judge passes exactly the tables of zero bytes and refuses all others with 12
   pub fits : (t : List ℕ) → (judgement [] t ≡ judgements.Fits) ↔ (t ≡ [])
   pub others : (t : List ℕ) → (t ≡ [] → ⊥) → judgement [] t ≡ judgements.Refused 12 0

@@ -56,6 +56,15 @@ slice-aggregate-number-line-3 c = refl
 number-line-requires-3 : tie.Need-number-line-requires-3
 number-line-requires-3 c κs = search needs
 
+enum-known-c-4 : tie.Need-enum-known-c-4
+enum-known-c-4 c = search needs
+
+slice-aggregate-number-line-4 : tie.Need-slice-aggregate-number-line-4
+slice-aggregate-number-line-4 c = refl
+
+number-line-requires-4 : tie.Need-number-line-requires-4
+number-line-requires-4 c κs = search needs
+
 returns : tie.Need-returns
 returns c = renamed (ap complaintLine (sym (c .enum-told .given .1))) (record { end = refl; within = omega arith; held = sym (pasted-none (c .before .before .before .args .out .now) 0) })
 
@@ -89,6 +98,12 @@ same-length-5 c = search needs
 returns-6 : tie.Need-returns-6
 returns-6 c = renamed (ap complaintLine (sym (c .before .before .before .before .before .before .c3 .given .1))) (c .before .before .number-line3 .ensures)
 
+same-length-6 : tie.Need-same-length-6
+same-length-6 c = search needs
+
+returns-7 : tie.Need-returns-7
+returns-7 c = renamed (ap complaintLine (sym (c .before .before .before .before .before .before .c4 .given .1))) (c .before .before .number-line4 .ensures)
+
 pub complaint-line-spec : {M : Type 1} → statement M
 complaint-line-spec =
     tie.close
@@ -109,6 +124,9 @@ complaint-line-spec =
     enum-known-c-3
     slice-aggregate-number-line-3
     number-line-requires-3
+    enum-known-c-4
+    slice-aggregate-number-line-4
+    number-line-requires-4
     returns
     same-length
     returns-2
@@ -119,4 +137,6 @@ complaint-line-spec =
     same-length-4
     returns-5
     same-length-5
-    returns-6)
+    returns-6
+    same-length-6
+    returns-7)

@@ -20,6 +20,9 @@ else2 e = e .before .before .before
 abbrev else3 : tie.Else4 → tie.Else3
 else3 e = e .before .before .before
 
+abbrev else4 : tie.Else5 → tie.Else4
+else4 e = e .before .before .before
+
 abbrev start : tie.Else1 → tie.Start
 start e = e .before .before .before .before .before .before
 
@@ -34,6 +37,9 @@ not-findat e = told (ascii "findat") (else1 (else2 e) .before .before .before .w
 
 not-fitted : (e : tie.Else4) → sameList (wordAt (start (else1 (else2 (else3 e))) .args .line .now) 0) (ascii "fitted") ≡ false
 not-fitted e = told (ascii "fitted") (else1 (else2 (else3 e)) .before .before .before .word .ensures .0) (e .before .same4 .ensures) (e .if4 .left)
+
+not-bundle : (e : tie.Else5) → sameList (wordAt (start (else1 (else2 (else3 (else4 e)))) .args .line .now) 0) (ascii "bundle") ≡ false
+not-bundle e = told (ascii "bundle") (else1 (else2 (else3 (else4 e))) .before .before .before .word .ensures .0) (e .before .same5 .ensures) (e .if5 .left)
 
 word-requires : tie.Need-word-requires
 word-requires c κs = tt
@@ -113,20 +119,39 @@ returns-4 c =
     let is = told (ascii "fitted") (else1 (else2 e) .before .before .before .word .ensures .0) (c .before .before .before .before .before .same4 .ensures) (c .before .before .before .before .if4 .taken) in
     rw (not-find (else1 (else2 e)), not-sizes (else2 e), not-findat e, is) (c .before .before .fitted-question .ensures)
 
-slice-aggregate-put : tie.Need-slice-aggregate-put
-slice-aggregate-put c = refl
+slice-aggregate-same-5 : tie.Need-slice-aggregate-same-5
+slice-aggregate-same-5 c = refl
 
-put-requires : tie.Need-put-requires
-put-requires c κs = omega (arith, start (else1 (else2 (else3 (c .before .before)))) .pre .1)
+same-requires-5 : tie.Need-same-requires-5
+same-requires-5 c κs = tt
+
+bundle-question-requires : tie.Need-bundle-question-requires
+bundle-question-requires c κs = start (else1 (else2 (else3 (c .before .before .before .before)))) .pre
 
 same-length-5 : tie.Need-same-length-5
-same-length-5 c = c .before .before .put .kept .0
+same-length-5 c = c .before .before .bundle-question .kept .1 .0
 
 returns-5 : tie.Need-returns-5
 unfolding searched
 returns-5 c =
+    let e = c .before .before .before .before .before .before .before in
+    let is = told (ascii "bundle") (else1 (else2 (else3 e)) .before .before .before .word .ensures .0) (c .before .before .before .before .before .same5 .ensures) (c .before .before .before .before .if5 .taken) in
+    rw (not-find (else1 (else2 (else3 e))), not-sizes (else2 (else3 e)), not-findat (else3 e), not-fitted e, is) (c .before .before .bundle-question .ensures)
+
+slice-aggregate-put : tie.Need-slice-aggregate-put
+slice-aggregate-put c = refl
+
+put-requires : tie.Need-put-requires
+put-requires c κs = omega (arith, start (else1 (else2 (else3 (else4 (c .before .before))))) .pre .1)
+
+same-length-6 : tie.Need-same-length-6
+same-length-6 c = c .before .before .put .kept .0
+
+returns-6 : tie.Need-returns-6
+unfolding searched
+returns-6 c =
     let e = c .before .before .before .before .before in
-    rw (not-find (else1 (else2 (else3 e))), not-sizes (else2 (else3 e)), not-findat (else3 e), not-fitted e) (c .before .before .put .ensures)
+    rw (not-find (else1 (else2 (else3 (else4 e)))), not-sizes (else2 (else3 (else4 e))), not-findat (else3 (else4 e)), not-fitted (else4 e), not-bundle e) (c .before .before .put .ensures)
 
 pub answer-searched-spec : {M : Type 1} → statement M
 answer-searched-spec =
@@ -153,7 +178,12 @@ answer-searched-spec =
     fitted-question-requires
     same-length-4
     returns-4
+    slice-aggregate-same-5
+    same-requires-5
+    bundle-question-requires
+    same-length-5
+    returns-5
     slice-aggregate-put
     put-requires
-    same-length-5
-    returns-5)
+    same-length-6
+    returns-6)

@@ -23,6 +23,9 @@ enum-told-5 c = search needs
 enum-told-6 : tie.Need-enum-told-6
 enum-told-6 c = search needs
 
+enum-told-7 : tie.Need-enum-told-7
+enum-told-7 c = search needs
+
 returns : tie.Need-returns
 returns c = sym (ap isWrong (c .enum-told .given .1))
 
@@ -41,6 +44,9 @@ returns-5 c = sym (ap isWrong (c .enum-told5 .given .1))
 returns-6 : tie.Need-returns-6
 returns-6 c = sym (ap isWrong (c .enum-told6 .given .1))
 
+returns-7 : tie.Need-returns-7
+returns-7 c = sym (ap isWrong (c .enum-told7 .given .1))
+
 pub is-wrong-spec : {M : Type 1} → statement M
 is-wrong-spec =
     tie.close
@@ -51,9 +57,11 @@ is-wrong-spec =
     enum-told-4
     enum-told-5
     enum-told-6
+    enum-told-7
     returns
     returns-2
     returns-3
     returns-4
     returns-5
-    returns-6)
+    returns-6
+    returns-7)

@@ -1,0 +1,2 @@
+-- The interface.
+pub mod Bundlings
