@@ -1,5 +1,7 @@
 // Answers questions, one a line of standard input, with one line each on standard output. All whole lines that were read are answered
 // before more is read. The program stops at the end of the input and, with a line on standard error, at the first read or write that fails.
+#![tactic(auto)]
+
 ghost use Rattle.std.specs.Prelude.{◌≤◌, length};
 ghost use Rattle.questions.specs.Questions.{answer_room};
 

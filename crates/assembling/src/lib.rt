@@ -1,4 +1,6 @@
 // The fitted sheet put together as a parsed sheet, list by list, from the old sheet and the tables of an answer.
+#![tactic(auto)]
+
 mod cells; // the expressions and the same statements of the table cells
 mod codes; // the names, the expressions and the differ statements of the codes
 pub mod limits; // cause 14

@@ -1,4 +1,6 @@
 // The question "bundle": several sheets that share one board, the smallest sum of each, and what they leave of a limit.
+#![tactic(auto)]
+
 ghost use Rattle.std.specs.Prelude.{◌≡◌};
 ghost use Rattle.bundle.specs.Bundle.{parts, smallest, refusal, gives, summing, bundling};
 ghost use Rattle.bundle.specs.Parts.{Located, Inside, settling};

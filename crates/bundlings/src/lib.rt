@@ -1,4 +1,6 @@
 // The question bundle of `ask`: a line that has its verb is answered in front of a lent buffer; the answer line's length is given back.
+#![tactic(auto)]
+
 ghost use Rattle.std.specs.Prelude.{◌≤◌, length};
 ghost use Rattle.prelude.specs.Pasted.{Wrote};
 ghost use Rattle.questions.specs.Questions.{answer_room};

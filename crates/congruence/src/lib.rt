@@ -1,4 +1,6 @@
 // The grouping of terms: congruence closure of the same statements. A group's label is its lowest-numbered term, held in a byte.
+#![tactic(auto)]
+
 ghost use Rattle.std.specs.Prelude.{◌≤◌, ◌<◌, ◌≡◌, true, false, map};
 ghost use Rattle.prelude.specs.Lists.{at, sum_to};
 ghost use Rattle.prelude.specs.Limits.{most_terms};

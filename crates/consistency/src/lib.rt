@@ -1,4 +1,6 @@
 // The whole test of a list of codes: whether the terms of a sheet can have them.
+#![tactic(auto)]
+
 ghost use Rattle.std.specs.Prelude.{◌≡◌, ℕ, ◌<◌};
 ghost use Rattle.prelude.specs.Limits.{most_codes};
 ghost use Rattle.prelude.specs.Tests.{Decides};

@@ -1,4 +1,6 @@
 // Writes a sheet without fills from its parsed form: the records in the layout's order, in front of the caller's buffer.
+#![tactic(auto)]
+
 ghost use Rattle.std.specs.Prelude.{◌≡◌, cond, ◌+◌, ◌≤◌, eqb, length};
 ghost use Rattle.prelude.specs.Limits.{most_sorts, most_symbols, most_terms, most_literals, most_total, most_written_bytes};
 ghost use Rattle.prelude.specs.Lists.{collect};

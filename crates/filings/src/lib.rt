@@ -1,5 +1,7 @@
 // The question fitted of `ask`: a line that has its verb is answered in front of a lent buffer, by the sheet that fitted writes into another; the answer
 // line's length is given back.
+#![tactic(auto)]
+
 ghost use Rattle.std.specs.Prelude.{◌≤◌, length};
 ghost use Rattle.prelude.specs.Limits.{most_written_bytes};
 ghost use Rattle.prelude.specs.Pasted.{Wrote};

@@ -1,5 +1,7 @@
 // The find program: reads a sheet from standard input, and prints its answer or why it is refused. It stops at the first write that fails, and
 // says on standard error when standard input cannot be read or standard output cannot be written.
+#![tactic(auto)]
+
 ghost use Rattle.std.specs.Prelude.{◌≤◌, length};
 ghost use Rattle.prelude.specs.Limits.{most_symbols};
 ghost use Rattle.find.specs.Parts.{Printable, Stretches};

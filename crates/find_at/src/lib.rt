@@ -1,5 +1,7 @@
 // The question "find_at": find at given sizes. What a call gives back and leaves in both buffers, and demand 3 of it among the candidates of
 // these sizes (specs/, proofs/).
+#![tactic(auto)]
+
 ghost use Rattle.std.specs.Prelude.{ℕ, ◌≡◌, length};
 ghost use Rattle.logic.specs.Sheet.{Sheet};
 ghost use Rattle.sheet.specs.Verdict.{ReadFrom};

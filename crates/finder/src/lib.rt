@@ -1,4 +1,6 @@
 // The question "find": what a call gives back and leaves in both buffers, and demand 3 of it (specs/, proofs/). It asks sizes and find_at in turn.
+#![tactic(auto)]
+
 ghost use Rattle.std.specs.Prelude.{◌≡◌, length};
 ghost use Rattle.sheet.specs.Verdict.{ReadFrom};
 ghost use Rattle.finder.specs.Find.{finding, codes_after, tables_after, Finds};

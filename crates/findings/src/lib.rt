@@ -1,5 +1,7 @@
 // The questions find and findat of `ask`: a line that has one of these verbs is answered in front of a lent buffer, by the codes and the tables that find
 // or find_at writes into two others; the answer line's length is given back.
+#![tactic(auto)]
+
 ghost use Rattle.std.specs.Prelude.{◌≤◌, ◌≡◌, length};
 ghost use Rattle.logic.specs.Sheet.{Sheet};
 ghost use Rattle.prelude.specs.Lists.{at};

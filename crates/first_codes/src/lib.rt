@@ -1,4 +1,6 @@
 // The codes that come first at given sizes.
+#![tactic(auto)]
+
 ghost use Rattle.std.specs.Prelude.{true, ◌≡◌, ◌<◌};
 ghost use Rattle.prelude.specs.Limits.{undecided};
 ghost use Rattle.prelude.specs.Lists.{at};

@@ -1,4 +1,6 @@
 // The question "fitted": the tables that find gives for a sheet, written as a sheet of their own.
+#![tactic(auto)]
+
 ghost use Rattle.std.specs.Prelude.{◌≡◌, ◌≤◌, length};
 ghost use Rattle.prelude.specs.Limits.{most_written_bytes};
 ghost use Rattle.sheet.specs.Verdict.{ReadFrom};

@@ -1,4 +1,6 @@
 // The question "forced": have two terms one code wherever the same statements of a sheet hold? Their groups have one number then.
+#![tactic(auto)]
+
 ghost use Rattle.std.specs.Prelude.{◌≡◌};
 ghost use Rattle.forced.specs.Forcing.{forcing};
 

@@ -1,4 +1,6 @@
 // Find, the two questions that it asks in turn, and judge, for C programs: byte buffers in, one number out. The C side is c/deodarloo.h.
+#![tactic(auto)]
+
 ghost use Rattle.std.specs.Prelude.{◌≡◌, length};
 ghost use Rattle.judge.specs.Judge.{judgement};
 ghost use Rattle.sizes.specs.Sizing.{sizing, sizes_after};

@@ -1,4 +1,6 @@
 // The question "group": which is the lowest-numbered term that is forced together with a given one?
+#![tactic(auto)]
+
 ghost use Rattle.std.specs.Prelude.{◌≡◌};
 ghost use Rattle.group.specs.Grouping.{grouping};
 

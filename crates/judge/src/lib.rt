@@ -1,4 +1,6 @@
 // The questions "judge" and "table of a name" (the table of a symbol), on the bytes of a sheet and of tables.
+#![tactic(auto)]
+
 ghost use Rattle.std.specs.Prelude.{◌+◌, ◌≤◌, ◌≡◌, length};
 ghost use Rattle.logic.specs.Sheet.{Sheet};
 ghost use Rattle.tables.specs.Parts.{Packs, Limited};

@@ -1,5 +1,7 @@
 // The knowledge that propagation gathers about terms: labels of groups, a byte each, masks of struck codes, marks of different pairs.
 // Each function adds knowledge, and promises that what was true of an assignment of codes stays true of it.
+#![tactic(auto)]
+
 ghost use Rattle.std.specs.Prelude.{◌≡◌, true, ◌≤◌, ◌<◌};
 ghost use Rattle.prelude.specs.Limits.{most_terms, most_codes};
 ghost use Rattle.knowledge.specs.Knows.{Bit, Labels, Masks, Marks, Knows, SmallCodes, Same, Differ, Means, Kept, Single};

@@ -1,4 +1,6 @@
 // The layout of a sheet: the parsed sheet, and a record tested against it and added to it.
+#![tactic(auto)]
+
 pub mod faults; // the causes 3 to 8 and 16
 mod fills; // those of a fill
 pub mod grow; // the sheet with a record more

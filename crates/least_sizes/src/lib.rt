@@ -1,4 +1,6 @@
 // The least sizes with consistent codes: smallest sum, then first place by place.
+#![tactic(auto)]
+
 ghost use Rattle.std.specs.Prelude.{true, ◌≡◌, ◌+◌, ◌≤◌, ◌<◌, length, set};
 ghost use Rattle.prelude.specs.Limits.{most_sorts, most_codes};
 ghost use Rattle.prelude.specs.Lists.{at};

@@ -1,5 +1,7 @@
 // The answer lines of `ask`: one for each answer that a question can have, written in front of a lent buffer. Each function gives the line's
 // length.
+#![tactic(auto)]
+
 ghost use Rattle.std.specs.Prelude.{◌≤◌, length};
 ghost use Rattle.prelude.specs.Pasted.{Wrote};
 ghost use Rattle.lines.specs.Lines.{complaint_line, verdict_line, judgement_line, forcing_line, grouping_line, stretch_line};

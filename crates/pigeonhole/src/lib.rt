@@ -1,5 +1,7 @@
 // R6 of propagation: terms of one symbol whose codes all differ are at most as many as their arguments have pairs of codes. Arguments
 // that are terms of one symbol themselves are counted the same way.
+#![tactic(auto)]
+
 ghost use Rattle.std.specs.Prelude.{◌≡◌, true, ◌+◌, ◌*◌, ◌≤◌, ◌<◌};
 ghost use Rattle.prelude.specs.Limits.{most_terms, most_codes};
 ghost use Rattle.prelude.specs.Lists.{at};

@@ -1,5 +1,7 @@
 // Propagation: what follows for every consistent extension of some decided codes. It starts from what is known already, at first from the
 // literals alone; the sizes and the decided codes come in, and the rules run until they find nothing new or a conflict shows.
+#![tactic(auto)]
+
 ghost use Rattle.std.specs.Prelude.{◌≤◌, ◌<◌};
 ghost use Rattle.prelude.specs.Limits.{most_terms};
 ghost use Rattle.prelude.specs.Lists.{at};

@@ -1,6 +1,8 @@
 // The questions of `ask` that lend no buffer and ask no search: read, judge, forced, group and table of a name, one function for each verb (walk stands in
 // trails, sizes in sizings, find and findat in findings, fitted in filings, bundle in bundlings).
 // Each answers a line that has its verb, in front of a lent buffer, and gives the answer line's length.
+#![tactic(auto)]
+
 ghost use Rattle.std.specs.Prelude.{◌≤◌, length};
 ghost use Rattle.prelude.specs.Pasted.{Wrote};
 ghost use Rattle.questions.specs.Questions.{answer_room, read_reply, judge_reply, forced_reply, group_reply, table_reply};

@@ -1,4 +1,6 @@
 // Records one after the other over the caller's bytes: a record's head, the record step, and a thin reader.
+#![tactic(auto)]
+
 ghost use Rattle.std.specs.Prelude.{◌≡◌, ◌+◌, ◌<◌, length};
 ghost use Rattle.records.specs.Record.{two_bytes};
 ghost use Rattle.records.specs.Step.{step_at, behind, stepped};

@@ -1,4 +1,6 @@
 // What `ask` prints for a line, whatever the line is: by its verb, the reply of the question.
+#![tactic(auto)]
+
 ghost use Rattle.std.specs.Prelude.{◌≤◌, ◌≡◌, length};
 ghost use Rattle.prelude.specs.Pasted.{Wrote};
 ghost use Rattle.questions.specs.Questions.{answer_room};

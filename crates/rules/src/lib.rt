@@ -1,5 +1,7 @@
 // The rules of propagation, each a pass over all terms that adds knowledge. A rule is an optional inference: a pass promises that what
 // was true of an assignment stays true, and which pairs of terms it tries is free.
+#![tactic(auto)]
+
 ghost use Rattle.std.specs.Prelude.{◌*◌, ◌≤◌, ◌<◌};
 ghost use Rattle.prelude.specs.Limits.{most_sorts, most_terms, most_codes};
 ghost use Rattle.prelude.specs.Lists.{at};

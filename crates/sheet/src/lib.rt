@@ -1,4 +1,6 @@
 // The question whether a sheet is accepted, and the parser that answers it: record after record is tested and added.
+#![tactic(auto)]
+
 ghost use Rattle.std.specs.Prelude.{◌≡◌, ◌+◌, ◌<◌, ◌≤◌, length, get_or, take, drop};
 ghost use Rattle.prelude.specs.Limits.{missing};
 ghost use Rattle.records.specs.Record.{payload_at, kind_at};

@@ -1,4 +1,6 @@
 // The question "sizes": the sizes of find's answer, without its codes and tables.
+#![tactic(auto)]
+
 ghost use Rattle.std.specs.Prelude.{◌≤◌, ◌≡◌, length};
 ghost use Rattle.prelude.specs.Limits.{most_sorts};
 ghost use Rattle.prelude.specs.Lists.{at, sum_to, firsts, fronted};

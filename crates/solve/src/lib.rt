@@ -1,4 +1,6 @@
 // The search at given sizes: consistent codes that keep to some decided ones, or that there are none.
+#![tactic(auto)]
+
 ghost use Rattle.std.specs.Prelude.{true, false, ◌≡◌, ◌<◌, ◌≤◌, set};
 ghost use Rattle.prelude.specs.Limits.{most_codes, undecided};
 ghost use Rattle.prelude.specs.Tests.{Decides};

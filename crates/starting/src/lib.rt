@@ -1,5 +1,7 @@
 // Where propagation starts and ends: what the literals, the sizes and the decided codes say before any rule runs, the conflict that ends it,
 // and the mask of each term after it.
+#![tactic(auto)]
+
 ghost use Rattle.std.specs.Prelude.{◌≤◌, ◌<◌};
 ghost use Rattle.prelude.specs.Limits.{most_terms, most_literals};
 ghost use Rattle.prelude.specs.Lists.{at};

@@ -1,4 +1,6 @@
 // The layout of tables: lengths, offsets and cells; the tests of judge, and one table written.
+#![tactic(auto)]
+
 ghost use Rattle.std.specs.Prelude.{ℕ, ◌+◌, ◌*◌, ◌≤◌, ◌<◌, ◌≡◌, ◌&&◌, length, leb, ltb, eqb};
 ghost use Rattle.std.proofs.Math.Seq.{paste};
 ghost use Rattle.logic.specs.Sheet.{Sheet};

@@ -2,6 +2,8 @@
 //
 // The listing shares no code with the entry points, and is not derived from their definitions. All functions are proved safe and ending; that
 // the listing is right rests on its being plain.
+#![tactic(auto)]
+
 pub mod answer; // the answer of a sheet, and that at given sizes: the first candidate, before its unforced cells are filled
 pub mod apart; // which terms an interpretation tells apart
 pub mod bundles; // what a bundle of sheets is to give

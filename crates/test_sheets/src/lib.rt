@@ -1,5 +1,7 @@
 // The sheets of the trial: random small ones from a fixed seed, some of them with symbols that few terms use, and some at the limits of fitted sheets.
 // They are made and written with no code of the product, and so are bundles of them.
+#![tactic(auto)]
+
 pub mod bundles; // bundles of kept sheets, and their bytes
 pub mod dice; // random numbers from a seed
 pub mod draw; // a sheet at random

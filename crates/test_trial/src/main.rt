@@ -2,6 +2,8 @@
 // forced, group and fitted are asked about each, and what they give is compared with a listing of all interpretations (crate test_listing); bundle is asked
 // about bundles of them. Read, find, sizes and find_at are asked about each sheet with a fill once more, with that fill out of place. The numbers printed are
 // fixed by the seed; a difference is printed with its sheet.
+#![tactic(auto)]
+
 mod answers; // find, sizes, find_at and fitted, over the listing, and walk on its answer
 mod buffers; // what a buffer holds
 mod bundle_faults; // bundle is asked about bundles at fault

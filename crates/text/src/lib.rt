@@ -1,4 +1,6 @@
 // The lines that the programs print, written into a lent buffer.
+#![tactic(auto)]
+
 ghost use Rattle.std.specs.Prelude.{◌≡◌, [], ◌∷◌, ◌+◌, ◌*◌, ◌≤◌, ◌<◌, length};
 ghost use Rattle.prelude.specs.Pasted.{Wrote};
 ghost use Rattle.text.specs.Text.{decimal, spaced, line, sums_line, hex_digit, hex, shown, bytes_line, answer_line, found_word, refused_word, field_word, name_word};

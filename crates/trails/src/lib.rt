@@ -1,5 +1,7 @@
 // The question walk of `ask`: a line that has its verb is answered in front of a lent buffer, by the codes that walk writes into a trail; the answer line's
 // length is given back.
+#![tactic(auto)]
+
 ghost use Rattle.std.specs.Prelude.{◌≤◌, length};
 ghost use Rattle.prelude.specs.Pasted.{Wrote};
 ghost use Rattle.walk.specs.Walk.{outcome};

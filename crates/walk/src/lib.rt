@@ -1,4 +1,6 @@
 // The question "walk": the codes that a list of events leads through, read from tables one event at a time.
+#![tactic(auto)]
+
 ghost use Rattle.std.specs.Prelude.{ℕ, ◌<◌, ◌+◌, ◌≡◌, true, ltb, length};
 ghost use Rattle.logic.specs.Sheet.{Sheet};
 ghost use Rattle.tables.specs.Layout.{decoded};

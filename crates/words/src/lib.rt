@@ -1,4 +1,6 @@
 // The words of a line: which they are, what is wrong with them, and the bytes or the number that a word stands for.
+#![tactic(auto)]
+
 ghost use Rattle.std.specs.Prelude.{◌≡◌, ◌+◌, ◌*◌, ◌≤◌, ◌<◌, min, length, drop};
 ghost use Rattle.prelude.specs.Tests.{same_list};
 ghost use Rattle.words.specs.Words.{later_words, word_at, many, digit_of, is_numeral, number_of, largest, Decoded};

@@ -1,4 +1,6 @@
 // Writes an answer, given by its sizes and codes: each symbol's table, the cells that no term reaches among them, in front of the caller's buffers.
+#![tactic(auto)]
+
 ghost use Rattle.std.specs.Prelude.{◌≡◌, ℕ, ◌≤◌, ◌<◌, length, take};
 ghost use Rattle.prelude.specs.Limits.{most_symbols, most_terms, most_fills, most_codes};
 ghost use Rattle.prelude.specs.Lists.{at, firsts, fronted};
