@@ -26,10 +26,10 @@ fn append(line: &mut [u8], held: usize, part: &[u8]) -> usize
 {
     let room = line.len() - held;
     if part.len() <= room {
-        let n = bytes::copy(part, &mut line[held..]);
+        let n = prelude::copy(part, &mut line[held..]);
         return held + n;
     }
-    let n = bytes::copy(&part[..room], &mut line[held..]);
+    let n = prelude::copy(&part[..room], &mut line[held..]);
     held + n
 }
 
@@ -53,7 +53,7 @@ fn take_lines(part: &[u8], line: &mut [u8], before: usize, out: &mut [u8]) -> Re
     let mut held = before;
     let mut from: usize = 0;
     while from < part.len() {
-        let end = bytes::scan::find(part, from, part.len(), b'\n');
+        let end = prelude::find_byte(part, from, part.len(), b'\n');
         held = append(line, held, &part[from..end]);
         if end == part.len() {
             return Rest { held, more: true };

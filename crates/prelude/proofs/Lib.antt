@@ -4,3 +4,4 @@ pub mod Fronted
 pub mod Collect
 pub mod Rows
 pub mod Pasted
+pub mod Bytes

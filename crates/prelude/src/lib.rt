@@ -2,9 +2,10 @@
 // and lists of numbers that definitions are made of, with their laws (specs/, proofs/).
 #![tactic(auto)]
 
-ghost use Rattle.std.specs.Prelude.{◌≡◌, ℕ, ◌<◌, min};
+ghost use Rattle.std.specs.Prelude.{◌≡◌, ℕ, ◌<◌, ◌≤◌, ◌+◌, ◌++◌, min, length, drop};
 ghost use Rattle.prelude.specs.Lists.{at};
 ghost use Rattle.prelude.specs.Limits.{most_terms};
+ghost use Rattle.prelude.specs.Bytes.{index_of, slice};
 
 // The numbers of the format (docs/FORMAT.md, "The sheet"); specs/Limits.antt says the same for definitions and contracts.
 
@@ -66,4 +67,29 @@ pub fn own_numbers(array: [u8; MOST_TERMS]) -> [u8; MOST_TERMS]
         k += 1;
     }
     numbers
+}
+
+// Copies src to the front of dst, and gives how many bytes that was.
+pub fn copy(src: &[u8], dst: &mut [u8]) -> usize
+    requires { length src.now ≤ length dst.old }
+    ensures { (result ≡ length src.now) × (dst.new ≡ src.now ++ drop (length src.now) dst.old) }
+{
+    let n = src.len();
+    dst[..n].copy_from_slice(src);
+    n
+}
+
+// The first place of a byte from one place on and before another one, which is given where the byte is not there.
+pub fn find_byte(s: &[u8], from: usize, to: usize, b: u8) -> usize
+    requires { (from ≤ to) × (to ≤ length s.now) }
+    ensures { (result ≡ from + index_of b (slice from to s.now)) × (from ≤ result) × (result ≤ to) }
+{
+    let mut i = from;
+    while i < to {
+        if s[i] == b {
+            return i;
+        }
+        i += 1;
+    }
+    to
 }

@@ -64,6 +64,6 @@ fn write_sizes(sizes: [u8; MOST_SORTS], n: usize, out: &mut [u8]) -> usize
     ensures sum { result ≡ sum_to n (at sizes) }
     ensures buffer { out.new ≡ fronted (firsts n (at sizes)) out.old }
 {
-    bytes::copy(&sizes[..n], out);
+    prelude::copy(&sizes[..n], out);
     tables::sum_of(sizes, n)
 }

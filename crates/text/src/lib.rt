@@ -101,7 +101,7 @@ pub fn put(out: &mut [u8], at: usize, word: &[u8]) -> usize
     requires { at + length word.now ≤ length out.old }
     ensures { Wrote out.old at word.now out.new result }
 {
-    let n = bytes::copy(word, &mut out[at..]);
+    let n = prelude::copy(word, &mut out[at..]);
     at + n
 }
 

@@ -9,7 +9,7 @@ use lib.ListN.{length, take, drop, get_or, drop_of_length-le}
 use lib.Seq.{take-length, drop-drop, drop-cons}
 use lib.Dec.{eqb}
 use borrow.Author.Tests.{eq-eqb, ne_eqb}
-use Rattle.bytes.specs.Bytes.{index_of, slice}
+use Rattle.prelude.specs.Bytes.{index_of, slice}
 use Rattle.words.specs.Words.{blank, later_words, word_at, many}
 
 slice_whole : (from : ℕ) (s : List ℕ) → slice from (length s) s ≡ drop from s

@@ -1,6 +1,6 @@
 -- Interface. The words of a line (docs/FORMAT.md, "Asking line by line"), and the bytes or the number that a word stands for.
 use Rattle.std.specs.Prelude.{ℕ, zero, suc, ◌+◌, ◌-◌, ◌*◌, ◌%◌, ◌≤◌, min, ◌≡◌, Bool, true, cond, ◌&&◌, List, [], ◌∷◌, length, take, drop, ltb, eqb}
-use Rattle.bytes.specs.Bytes.{index_of}
+use Rattle.prelude.specs.Bytes.{index_of}
 
 -- Words are separated by single blanks: two blanks in a row have an empty word between them.
 abbrev pub blank : ℕ

@@ -32,7 +32,7 @@ pub fn word<'a>(line: &'a [u8], k: usize) -> &'a [u8]
         from = behind_word(line, from);
         i += 1;
     }
-    let end = bytes::scan::find(line, from, line.len(), b' ');
+    let end = prelude::find_byte(line, from, line.len(), b' ');
     &line[from..end]
 }
 
@@ -106,7 +106,7 @@ fn behind_word(line: &[u8], from: usize) -> usize
     requires { from ≤ length line.now }
     ensures { (result ≤ length line.now) × (drop result line.now ≡ later_words (drop from line.now)) }
 {
-    let end = bytes::scan::find(line, from, line.len(), b' ');
+    let end = prelude::find_byte(line, from, line.len(), b' ');
     if end == line.len() { end } else { end + 1 }
 }
 

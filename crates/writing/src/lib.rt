@@ -26,9 +26,9 @@ pub fn write_answer(
     ensures { (sh : Sheet) → Packs sh p → AnswerWritten sh (at sizes) (at codes) code_out.old table_out.old code_out.new table_out.new result }
 {
     let terms = p.terms;
-    bytes::copy(&codes[..terms], code_out);
+    prelude::copy(&codes[..terms], code_out);
     let sorts = p.sorts;
-    bytes::copy(&sizes[..sorts], table_out);
+    prelude::copy(&sizes[..sorts], table_out);
     write_tables(table_out, p, sizes, codes);
     tables::sum_of(sizes, sorts)
 }
