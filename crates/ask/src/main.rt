@@ -13,7 +13,7 @@ use questions::ANSWER_ROOM;
 const HELD: usize = 262146;
 
 // What is left when the lines of a part were answered: how much of a line is held, and whether to go on.
-#[derive(Drop)]
+#[derive(Clone, Copy)]
 struct Rest {
     held: usize,
     more: bool,

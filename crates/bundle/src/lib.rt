@@ -16,7 +16,7 @@ pub const MOST_SHEETS: usize = 8;
 const SHEET_KIND: usize = 9;
 
 // What becomes of the board's stock of codes: what is left of the limit, or the refusal.
-#[derive(Drop)]
+#[derive(Clone, Copy)]
 pub enum Stock {
     Left(u8),
     Refused { number: u8, place: usize },
@@ -24,14 +24,14 @@ pub enum Stock {
 
 // The answer to the question "bundle": the smallest sum of each sheet, in the bundle's order, 0 in unused places and where the call is turned down; and the
 // stock.
-#[derive(Drop)]
+#[derive(Clone, Copy)]
 pub struct Bundling {
     pub sums: [u8; MOST_SHEETS],
     pub stock: Stock,
 }
 
 // Where the sheets of a bundle start and end in its bytes, and how many there are: none where the bundle itself is at fault.
-#[derive(Drop)]
+#[derive(Clone, Copy)]
 pub(crate) struct Parts {
     pub many: usize,
     pub starts: [usize; MOST_SHEETS],

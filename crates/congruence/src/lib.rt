@@ -13,7 +13,7 @@ use layout::Parsed;
 use prelude::{MOST_TERMS, own_numbers, wide};
 
 // A symbol with the labels of its two arguments: terms with one key have equal codes.
-#[derive(Drop)]
+#[derive(Clone, Copy)]
 pub(crate) struct Key {
     pub symbol: u8,
     pub first: u8,

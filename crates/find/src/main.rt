@@ -18,7 +18,7 @@ const MOST_INPUT: usize = 4097;
 const MOST_LINE: usize = 2048;
 
 // What was read: how many bytes stand in front of the buffer, and whether no read failed.
-#[derive(Drop)]
+#[derive(Clone, Copy)]
 struct Input {
     len: usize,
     whole: bool,

@@ -17,7 +17,7 @@ use prelude::{MOST_CODES, MOST_SORTS, MOST_SYMBOLS};
 pub const MOST_TABLES: usize = MOST_SORTS + MOST_SYMBOLS * MOST_CODES * MOST_CODES;
 
 // The answer to the questions "find_at" and "find".
-#[derive(Drop)]
+#[derive(Clone, Copy)]
 pub enum Finding {
     // the sum of the sizes
     Found { sum: usize },

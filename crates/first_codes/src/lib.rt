@@ -15,7 +15,7 @@ use layout::Parsed;
 use prelude::{BYTE_VALUES, MOST_CODES, MOST_SORTS, MOST_TERMS, UNDECIDED, wide};
 
 // Consistent codes, or that there are none.
-#[derive(Drop)]
+#[derive(Clone, Copy)]
 pub struct Codes {
     pub found: bool,
     pub codes: [u8; BYTE_VALUES],

@@ -12,7 +12,7 @@ use layout::Parsed;
 use prelude::{MOST_TERMS, MOST_WRITTEN_BYTES};
 
 // The answer to the question "fitted".
-#[derive(Drop)]
+#[derive(Clone, Copy)]
 pub enum Fitting {
     // the length of the sheet that was written
     Written { length: usize },

@@ -8,7 +8,7 @@ use congruence::groups;
 use sheet::parse;
 
 // The answer; a refusal has the number and the place of docs/FORMAT.md, "Refusals".
-#[derive(Drop)]
+#[derive(Clone, Copy)]
 pub enum Forcing {
     Yes,
     No,

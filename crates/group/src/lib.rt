@@ -9,7 +9,7 @@ use prelude::wide;
 use sheet::parse;
 
 // The answer; a refusal has the number and the place of docs/FORMAT.md, "Refusals".
-#[derive(Drop)]
+#[derive(Clone, Copy)]
 pub enum Grouping {
     Group(usize),
     Refused { number: u8, place: usize },

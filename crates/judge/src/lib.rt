@@ -10,7 +10,7 @@ use layout::Parsed;
 use tables::Judgement;
 
 // A stretch of the tables: where it starts and where it ends.
-#[derive(Drop)]
+#[derive(Clone, Copy)]
 pub struct Span {
     pub start: usize,
     pub end: usize,

@@ -11,7 +11,6 @@ use Rattle.logic.specs.Sheet.{Sheet, symbol_at, sort_at}
 use Rattle.prelude.specs.Tests.{all, within}
 use Rattle.prelude.proofs.Tests.{or_all, or_fourth, and_no}
 use Rattle.layout.specs.Layout.{Kind, field, name, expression, same, total, fill, kind_of, rank, reached, misplaced, wrong_length, shortest, longest, too_many, out_of_range, ill_sorted, repeated, refilled, occurs, is_filled}
-use Rattle.layout.specs.Packed.{first}
 use Rattle.layout.specs.Parts.{later}
 
 -- a kind that is none of 1 to 7 has no rank

@@ -45,7 +45,7 @@ pub fn with_sort(p: Parsed, b0: u8, b1: u8) -> Parsed
 pub fn with_symbol(p: Parsed, q: Payload) -> Parsed
     requires symbols_lt_most_symbols { p.symbols < most_symbols }
     requires short { Short q }
-    ensures* { λ r. ⌜ ((sh : Sheet) → p ≡ packed sh → length sh.terms ≡ 0 → r ≡ packed (add_symbol sh (record { result = q.b0; params = drop 1 (payload_bytes q) }))) ⌝ }
+    ensures { (sh : Sheet) → p ≡ packed sh → length sh.terms ≡ 0 → result ≡ packed (add_symbol sh (record { result = q.b0; params = drop 1 (payload_bytes q) })) }
 {
     let mut out = p;
     let n = p.symbols;

@@ -12,7 +12,7 @@ ghost use Rattle.layout.specs.Packed.{packed};
 use prelude::{MOST_FILLS, MOST_LITERALS, MOST_SORTS, MOST_SYMBOLS, MOST_TERMS};
 
 // A parsed sheet: what its records say, kind by kind in their order. A parameter or an argument that is not there is MISSING.
-#[derive(Drop)]
+#[derive(Clone, Copy)]
 pub struct Parsed {
     // sorts: the least and the greatest number of codes
     pub sorts: usize,
@@ -42,7 +42,7 @@ pub struct Parsed {
 }
 
 // A payload of one to three bytes, MISSING for a second or third that is not there.
-#[derive(Drop)]
+#[derive(Clone, Copy)]
 pub struct Payload {
     pub len: usize,
     pub b0: u8,

@@ -14,28 +14,28 @@ use prelude::{BYTE_VALUES, MOST_SORTS, MOST_TERMS, UNDECIDED, wide};
 use tables::sum_of;
 
 // Sizes of the sorts, or that there are none.
-#[derive(Drop)]
+#[derive(Clone, Copy)]
 pub struct Sizes {
     pub found: bool,
     pub sizes: [u8; MOST_SORTS],
 }
 
 // Where sizes may lie.
-#[derive(Drop)]
+#[derive(Clone, Copy)]
 struct Room {
     ok: bool,
     high: [u8; MOST_SORTS],
 }
 
 // The best sizes so far.
-#[derive(Drop)]
+#[derive(Clone, Copy)]
 struct State {
     found: bool,
     best: [u8; MOST_SORTS],
 }
 
 // A region that is done, or a box that its lowest sizes lie in.
-#[derive(Drop)]
+#[derive(Clone, Copy)]
 struct Looking {
     done: bool,
     corner: [u8; MOST_SORTS],

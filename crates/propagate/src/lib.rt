@@ -28,7 +28,7 @@ const MORE: usize = 1;
 const JOINED: usize = 2;
 
 // What is known of some assignments of codes to terms.
-#[derive(Drop)]
+#[derive(Clone, Copy)]
 pub struct Known {
     // the group of each term, named by one of its terms
     pub labels: [u8; MOST_TERMS],
@@ -40,7 +40,7 @@ pub struct Known {
 
 // What propagation found out: whether no consistent codes keep to the decided ones, and what is known of those that do; group and degree
 // only guide the search.
-#[derive(Drop)]
+#[derive(Clone, Copy)]
 pub struct Propagation {
     pub dead: bool,
     // the group in which that showed

@@ -8,7 +8,7 @@ ghost use Rattle.records.specs.Step.{step_at, behind, stepped};
 use prelude::wide;
 
 // What stands at a position of a sheet.
-#[derive(Drop)]
+#[derive(Clone, Copy)]
 pub enum Step {
     // a whole record: its kind, and its payload's start and length
     Record {
@@ -23,21 +23,21 @@ pub enum Step {
 }
 
 // What stands at a position, and the position behind it: the end of a whole record, else where it was.
-#[derive(Drop)]
+#[derive(Clone, Copy)]
 pub struct Stepped {
     pub step: Step,
     pub behind: usize,
 }
 
 // A sheet's bytes and a position in them: records are handed out one at a time, with no copy of the bytes.
-#[derive(Drop)]
+#[derive(Clone, Copy)]
 pub struct Reader<'a> {
     pub sheet: &'a [u8],
     pub at: usize,
 }
 
 // What a reader hands out: what stands at its position, and the reader behind it, over the same bytes.
-#[derive(Drop)]
+#[derive(Clone, Copy)]
 pub struct Handed<'a> {
     pub step: Step,
     pub rest: Reader<'a>,

@@ -20,7 +20,7 @@ use records::{Step, record_at};
 const MOST_BYTES: usize = 4096;
 
 // What reading a sheet gives: number 0 and the sheet where it is accepted, else the refusal's number and place, and an empty sheet.
-#[derive(Drop)]
+#[derive(Clone, Copy)]
 pub struct Parsing {
     pub number: u8,
     pub place: usize,
@@ -28,14 +28,14 @@ pub struct Parsing {
 }
 
 // The answer to the question "read".
-#[derive(Drop)]
+#[derive(Clone, Copy)]
 pub enum Verdict {
     Accepted,
     Refused { number: u8, place: usize },
 }
 
 // A record tested and added: number 0, where the next one starts and the sheet with it, or the number of the cause.
-#[derive(Drop)]
+#[derive(Clone, Copy)]
 pub(crate) struct Taken {
     pub number: u8,
     pub next: usize,

@@ -11,7 +11,7 @@ use layout::Parsed;
 use prelude::MOST_SORTS;
 
 // The answer to the question "sizes".
-#[derive(Drop)]
+#[derive(Clone, Copy)]
 pub enum Sizing {
     // the sum of the sizes
     Sized { sum: usize },

@@ -27,7 +27,7 @@ const FADING: u16 = 128;
 const HEAVIEST: u16 = 65000;
 
 // The answer of a search.
-#[derive(Drop)]
+#[derive(Clone, Copy)]
 pub struct Solution {
     pub found: bool,
     pub codes: [u8; BYTE_VALUES],
@@ -35,7 +35,7 @@ pub struct Solution {
 
 // One node of the search. Where it is neither dead nor found, a term to branch on, with the size of its sort, the codes struck out,
 // the codes in use, and the first that is not.
-#[derive(Drop)]
+#[derive(Clone, Copy)]
 pub struct Visit {
     pub dead: bool,
     pub found: bool,
@@ -48,7 +48,7 @@ pub struct Visit {
 }
 
 // A term that is not settled, or the codes of all terms.
-#[derive(Drop)]
+#[derive(Clone, Copy)]
 struct Settled {
     term: usize,
     codes: [u8; BYTE_VALUES],

@@ -17,7 +17,7 @@ use layout::Parsed;
 use prelude::{BYTE_VALUES, GREATEST_SIZE, MOST_CODES, MOST_SORTS, MOST_SYMBOLS, wide};
 
 // The answer to the question "judge".
-#[derive(Drop)]
+#[derive(Clone, Copy)]
 pub enum Judgement {
     Fits,
     OutOfBounds,

@@ -16,7 +16,7 @@ use walk::Walking;
 use words::{decode, is_wrong, number, word, wrong_with};
 
 // The numbers of a walk: the field, the starting code, how many bytes the trail has, and where the codes start in it.
-#[derive(Drop)]
+#[derive(Clone, Copy)]
 struct Numbers {
     sort: usize,
     code: usize,

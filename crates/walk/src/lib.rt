@@ -12,7 +12,7 @@ use layout::Parsed;
 use prelude::{MISSING, wide};
 
 // The answer to the question "walk".
-#[derive(Drop)]
+#[derive(Clone, Copy)]
 pub enum Walking {
     // how many codes were written
     Written { length: usize },

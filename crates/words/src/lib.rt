@@ -10,7 +10,7 @@ ghost use Rattle.words.specs.Complaints.{is_wrong, wrong_bytes, wrong_number, wr
 const GREATEST_LIMIT: usize = 255;
 
 // What is wrong with the words of a question; a word is named by its place, the verb being word 1.
-#[derive(Drop)]
+#[derive(Clone, Copy)]
 pub enum Complaint {
     Nothing,
     TooFew,
