@@ -38,7 +38,8 @@ pub fn is_misplaced(p: Parsed, kind: usize) -> bool
     if rank < reached {
         return true;
     }
-    if reached == 6 {
+    let ended = reached == 6;
+    if ended {
         return true;
     }
     if reached != 0 {

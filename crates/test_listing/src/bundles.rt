@@ -8,7 +8,7 @@ use test_sheets::tray::{MOST_SHEETS, TRAY, length, sum};
 pub const TOTAL_BYTES: usize = 5;
 
 // The eight sums; number 0 and what is left of the limit, or the number and the place of a refusal; and the sums of the sheets before one that is refused.
-#[derive(Drop)]
+#[derive(Clone, Copy, Drop)]
 pub struct Want {
     pub sums: [u8; MOST_SHEETS],
     pub number: u8,

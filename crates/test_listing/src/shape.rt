@@ -9,7 +9,7 @@ pub const BUDGET: usize = 100000;
 pub const ROOM: usize = 512;
 
 // Where a symbol's cells lie in the tables, and how many a row of them has.
-#[derive(Drop)]
+#[derive(Clone, Copy, Drop)]
 pub struct Stretch {
     pub from: usize,
     pub to: usize,
@@ -18,7 +18,7 @@ pub struct Stretch {
 
 // The tables at given sizes: the stretch of each symbol, how long the tables are, and how many tables there are (one more than the budget
 // where they are too many or too long).
-#[derive(Drop)]
+#[derive(Clone, Copy, Drop)]
 pub struct Shape {
     pub size: [u8; MOST_SORTS],
     pub stretch: [Stretch; MOST_SYMBOLS],

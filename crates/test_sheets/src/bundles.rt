@@ -15,7 +15,7 @@ const NOWHERE: usize = 255;
 
 // A bundle: how many records it has, whether the kept sheets come in reverse order, the place of the sheet that stands in, and the place of a sheet that lacks
 // its last bytes, and how many. Records behind the kept sheets hold no bytes.
-#[derive(Drop)]
+#[derive(Clone, Copy, Drop)]
 pub struct Made {
     pub records: usize,
     pub reversed: bool,

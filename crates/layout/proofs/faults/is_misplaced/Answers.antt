@@ -21,8 +21,8 @@ returns-then-rank-reached c sh e =
     let r = c.reached_by-reached.ensures sh e in
     misplaced_order sh (kind_of a.kind) (λ z. c.if-rank-eq0.false (k ∙ z)) (omega arith)
 
-pub returns-then-reached-eq6 : goal.returns-then-reached-eq6
-returns-then-reached-eq6 c sh e =
+pub returns-then-ended : goal.returns-then-ended
+returns-then-ended c sh e =
     let a = c.args in
     let k = c.rank_of-rank.ensures in
     let r = c.reached_by-reached.ensures sh e in misplaced_after sh (kind_of a.kind) (omega arith)
@@ -33,7 +33,7 @@ returns-then-reached-ne0 c sh e =
     let k = c.rank_of-rank.ensures in
     let r = c.reached_by-reached.ensures sh e in
     placed_later sh (kind_of a.kind) (λ z. c.if-rank-eq0.false (k ∙ z)) (omega arith)
-    (λ z. c.if-reached-eq6.false (r ∙ z)) (λ z. c.if-reached-ne0.true (r ∙ z))
+    (λ z. c.if-ended.false (r ∙ z)) (λ z. c.if-reached-ne0.true (r ∙ z))
 
 pub returns : goal.returns
 returns c sh e =
