@@ -107,8 +107,8 @@ module _ (s : List ℕ) (i : ℕ) (p : Parsed) (g : Going s i p) (h : length s �
       sym (ap (λ (c : Bool). cond c (refused 9 (length s)) (accepted g.known.sheet)) (ap (λ (n : ℕ). eqb n 0 && not (eqb (length s) 0)) (sym total_read) ∙ e))
       ∙ going_end s i p g h
 
-  pub going_untotalled : p.total ≡ 0 → not (eqb (length s) 0) ≡ true → refused 9 (length s) ≡ reading s
-  going_untotalled e some = ending true (rw (eq-eqb p.total 0 e, some))
+  pub going_untotalled : p.total ≡ 0 → (length s ≡ 0 → ⊥) → refused 9 (length s) ≡ reading s
+  going_untotalled e some = ending true (rw (eq-eqb p.total 0 e, ne_eqb (length s) 0 some))
 
   going_whole : (eqb p.total 0 && not (eqb (length s) 0)) ≡ false → record { number = 0; place = 0; sheet = p } ≡ parsing (reading s)
   unfolding parsing
@@ -118,5 +118,5 @@ module _ (s : List ℕ) (i : ℕ) (p : Parsed) (g : Going s i p) (h : length s �
   going_accepted e = going_whole (rw (ne_eqb p.total 0 e))
 
   -- a sheet of zero bytes
-  pub going_nothing : p.total ≡ 0 → not (eqb (length s) 0) ≡ false → record { number = 0; place = 0; sheet = p } ≡ parsing (reading s)
-  going_nothing e none = going_whole (rw (eq-eqb p.total 0 e, none))
+  pub going_nothing : p.total ≡ 0 → length s ≡ 0 → record { number = 0; place = 0; sheet = p } ≡ parsing (reading s)
+  going_nothing e none = going_whole (rw (eq-eqb p.total 0 e, eq-eqb (length s) 0 none))
