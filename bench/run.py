@@ -36,8 +36,7 @@ Row = collections.namedtuple("Row", "part family name terms line program call so
 
 def build():
     OUT.mkdir(parents=True, exist_ok=True)
-    subprocess.run(["rt", "check", "find"], check=True, stdout=subprocess.DEVNULL)
-    subprocess.run(["rt", "staticlib", "gateway"], check=True, stdout=subprocess.DEVNULL)
+    subprocess.run(["tests/build.sh"], check=True, stdout=subprocess.DEVNULL)
     subprocess.run(["cc", "-O2", "-o", str(OUT / "loop"), "bench/loop.c", "target/staticlib/libgateway.a"], check=True)
 
 

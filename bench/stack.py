@@ -21,7 +21,7 @@ CHAIN = {"find": 1, "sizes::sizes_parsed": 1, "least_sizes::hunt": 121, "least_s
 
 def build():
     OUT.mkdir(parents=True, exist_ok=True)
-    subprocess.run(["rt", "staticlib", "gateway"], check=True, stdout=subprocess.DEVNULL)
+    subprocess.run(["tests/build.sh"], check=True, stdout=subprocess.DEVNULL)
     subprocess.run(["cc", "-O2", "-pthread", "-o", OUT / "stack", "bench/stack.c", "target/staticlib/libgateway.a"], check=True)
 
 

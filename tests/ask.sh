@@ -1,6 +1,6 @@
 #!/usr/bin/env bash
 # The program ask on what its case files cannot hold: lines at and above the longest, carriage returns, a last line without a line feed, answers that do
-# not wait for the end of the input, and streams that fail. Run from the repository's top, once target/bin/ask is built.
+# not wait for the end of the input, and streams that fail. Run from the repository's top, behind tests/build.sh.
 set -u
 asked=0 failed=0
 

@@ -1,6 +1,6 @@
 #!/usr/bin/env bash
 # Runs the find program on every sheet of examples/ and compares all that it prints with the output beside the sheet; a sheet without an output, or an
-# output without a sheet, is a fault. Then a read and a write that fail. Run from the repository's top, once target/bin/find is built.
+# output without a sheet, is a fault. Then a read and a write that fail. Run from the repository's top, behind tests/build.sh.
 set -u
 shopt -s nullglob
 compared=0 failed=0

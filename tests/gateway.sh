@@ -1,9 +1,8 @@
 #!/usr/bin/env bash
 # Builds the C and C++ programs of the gateway on the archive of this tree, and compares what they print: the courier, which asks sizes and then find_at,
 # on every sheet of examples/ with what the find program's expected output says; every find, sizes, findat and judge question of tests/cases, and the guard's
-# own calls, with guard bytes around every buffer; and the four functions from C++. Run from the repository's top.
+# own calls, with guard bytes around every buffer; and the four functions from C++. Run from the repository's top, behind tests/build.sh.
 set -u
-rt staticlib gateway >target/gateway.log 2>&1 || { cat target/gateway.log; exit 1; }
 for source in crates/gateway/c/courier.c tests/gateway/guard.c tests/gateway/cases.c; do
     cc -Wall -Wextra -O2 -Icrates/gateway/c -o "target/$(basename "$source" .c)" "$source" target/staticlib/libgateway.a || exit 1
 done

@@ -7,7 +7,7 @@ use mathlib.Core.List.{List, [], ◌∷◌, ◌++◌, flat_map, append-nil, appe
 use lib.ListN.{length, get_or, length-append}
 use lib.Dec.{eqb}
 use Rattle.prelude.specs.Limits.{most_total}
-use Rattle.prelude.specs.Lists.{at, collect}
+use Rattle.prelude.specs.Lists.{collect}
 use Rattle.prelude.proofs.Collect.{collect_same}
 use Rattle.logic.specs.Sheet.{Sheet, symbol_at, term_at, literal_at, bound_at, no_bound, no_symbol, no_term, no_literal}
 use Rattle.logic.proofs.Meaning.{few_arguments}

@@ -8,8 +8,8 @@ ghost use Rattle.find.specs.Parts.{Printable, Stretches};
 
 use find_at::{Finding, MOST_TABLES};
 use layout::Parsed;
-use libc::{STDERR_FILENO, STDIN_FILENO, STDOUT_FILENO};
 use prelude::{MOST_SYMBOLS, MOST_TERMS, wide};
+use std::io::{Read, Write};
 
 // One byte more than a sheet may have, so that a longer one is refused.
 const MOST_INPUT: usize = 4097;
@@ -24,33 +24,34 @@ struct Input {
     whole: bool,
 }
 
-fn main() {
+fn main(rt: HostRuntime) {
     let mut buffer = [0u8; MOST_INPUT];
     let mut codes = [0u8; MOST_TERMS];
     let mut tables = [0u8; MOST_TABLES];
     let mut line = [0u8; MOST_LINE];
-    let input = read_input(&mut buffer);
-    if !input.whole {
-        io::write_all(STDERR_FILENO, b"find: cannot read standard input\n");
+    let mut input = rt.stdin();
+    let mut out = rt.stdout();
+    let mut errors = rt.stderr();
+    let read = read_input(&mut input, &mut buffer);
+    if !read.whole {
+        say(&mut errors, b"find: cannot read standard input\n");
         return;
     }
-    let n = input.len;
-    if !answer(&buffer[..n], &mut codes, &mut tables, &mut line) {
-        io::write_all(STDERR_FILENO, b"find: cannot write standard output\n");
+    let n = read.len;
+    if !answer(&mut out, &buffer[..n], &mut codes, &mut tables, &mut line) {
+        say(&mut errors, b"find: cannot write standard output\n");
     }
 }
 
 // Reads standard input until the buffer is full, the input ends or a read fails.
-fn read_input(buffer: &mut [u8]) -> Input
+fn read_input<R: Read>(input: &mut R, buffer: &mut [u8]) -> Input
     ensures { result.len ≤ length buffer.new }
 {
     let mut len: usize = 0;
     while len < buffer.len() {
-        let got = libc::read(STDIN_FILENO, &mut buffer[len..]);
-        if got < 0 {
+        let Ok(more) = input.read(&mut buffer[len..]) else {
             return Input { len, whole: false };
-        }
-        let more = io::count(got, &buffer[len..]);
+        };
         if more == 0 {
             return Input { len, whole: true };
         }
@@ -59,51 +60,56 @@ fn read_input(buffer: &mut [u8]) -> Input
     Input { len, whole: true }
 }
 
+// Writes bytes, and gives back whether all were written.
+fn say<W: Write>(out: &mut W, bytes: &[u8]) -> bool {
+    out.write_all(bytes).is_ok()
+}
+
 // Finds, and prints what was found; the buffers are lent by the caller. Like each function below, it gives back whether all was written.
-fn answer(sheet: &[u8], codes: &mut [u8], tables: &mut [u8], line: &mut [u8]) -> bool
+fn answer<W: Write>(out: &mut W, sheet: &[u8], codes: &mut [u8], tables: &mut [u8], line: &mut [u8]) -> bool
     requires { 2048 ≤ length line.old }
 {
     let parsing = sheet::parse(sheet);
     let number = parsing.number;
     let place = parsing.place;
     if number != 0 {
-        return print_refusal(number, place, line);
+        return print_refusal(out, number, place, line);
     }
     let p = parsing.sheet;
     let found = finder::in_turn(p, codes, tables);
     match found {
-        Finding::Refused { number, place } => print_refusal(number, place, line),
-        Finding::Found { sum } => print_answer(p, sum, tables, line),
+        Finding::Refused { number, place } => print_refusal(out, number, place, line),
+        Finding::Found { sum } => print_answer(out, p, sum, tables, line),
     }
 }
 
 // Prints an answer: the sum, the sorts, the symbols. The tables stand in front of the buffer.
-fn print_answer(p: Parsed, sum: usize, buffer: &[u8], line: &mut [u8]) -> bool
+fn print_answer<W: Write>(out: &mut W, p: Parsed, sum: usize, buffer: &[u8], line: &mut [u8]) -> bool
     requires printable { Printable p buffer.now }
     requires in_bounds { 2048 ≤ length line.old }
 {
     let k = text::found_line(line, sum);
-    if !print(line, k) {
+    if !print(out, line, k) {
         return false;
     }
     let sorts = p.sorts;
-    if !print_sorts(sorts, buffer, line) {
+    if !print_sorts(out, sorts, buffer, line) {
         return false;
     }
     let sizes = tables::sizes_of(sorts, buffer);
     let offsets = tables::extents(p, sizes);
     let symbols = p.symbols;
-    print_symbols(symbols, offsets, buffer, line)
+    print_symbols(out, symbols, offsets, buffer, line)
 }
 
 // Prints the size of each of n sorts.
-fn print_sorts(n: usize, sizes: &[u8], line: &mut [u8]) -> bool
+fn print_sorts<W: Write>(out: &mut W, n: usize, sizes: &[u8], line: &mut [u8]) -> bool
     requires { (n ≤ length sizes.now) × (2048 ≤ length line.old) }
 {
     let mut s: usize = 0;
     while s < n {
         let k = text::sort_line(line, s, wide(sizes[s]));
-        if !print(line, k) {
+        if !print(out, line, k) {
             return false;
         }
         s += 1;
@@ -112,7 +118,8 @@ fn print_sorts(n: usize, sizes: &[u8], line: &mut [u8]) -> bool
 }
 
 // Prints the table of each of n symbols, which stands from its offset to the next.
-fn print_symbols(
+fn print_symbols<W: Write>(
+    out: &mut W,
     n: usize,
     offsets: [usize; MOST_SYMBOLS + 1],
     tables: &[u8],
@@ -127,7 +134,7 @@ fn print_symbols(
         let start = offsets[f];
         let end = offsets[f + 1];
         let k = text::symbol_line(line, f, &tables[start..end]);
-        if !print(line, k) {
+        if !print(out, line, k) {
             return false;
         }
         f += 1;
@@ -136,16 +143,16 @@ fn print_symbols(
 }
 
 // Prints the line of a refusal.
-fn print_refusal(number: u8, place: usize, line: &mut [u8]) -> bool
+fn print_refusal<W: Write>(out: &mut W, number: u8, place: usize, line: &mut [u8]) -> bool
     requires { 2048 ≤ length line.old }
 {
     let k = text::refused_line(line, wide(number), place);
-    print(line, k)
+    print(out, line, k)
 }
 
 // Prints the first k bytes of a line.
-fn print(line: &[u8], k: usize) -> bool
+fn print<W: Write>(out: &mut W, line: &[u8], k: usize) -> bool
     requires { k ≤ length line.now }
 {
-    io::write_all(STDOUT_FILENO, &line[..k])
+    say(out, &line[..k])
 }

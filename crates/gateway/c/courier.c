@@ -1,5 +1,5 @@
 /* A courier gateway in small: reads a sheet from a file, quotes its sizes, finds the tables at these, judges what it found, and prints.
- * Build: rt staticlib gateway && cc -o target/courier crates/gateway/c/courier.c target/staticlib/libgateway.a */
+ * Build: tests/build.sh && cc -o target/courier crates/gateway/c/courier.c target/staticlib/libgateway.a */
 #include "deodarloo.h"
 #include <stdio.h>
 

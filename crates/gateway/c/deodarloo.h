@@ -1,4 +1,4 @@
-/* The finder for C and C++ programs: link target/staticlib/libgateway.a (rt staticlib gateway).
+/* The finder for C and C++ programs: link target/staticlib/libgateway.a (tests/build.sh writes it).
  *
  * Each buffer is a pointer and a length in bytes; a NULL pointer goes with length 0. Buffers do not overlap.
  * A refusal has its number in the upper 16 bits of the result and its place in the lower 16; every buffer is then as it was.

@@ -37,8 +37,8 @@ or_odd x y h =
       | inr e ↦ inl e
     ]
 
-pub bit_or : (a b v : ℕ) → Bit (bit_or a b) v → Bit a v ⊎ Bit b v
-bit_or a b v h = or_odd (a / 2 ^ v) (b / 2 ^ v) (rw (or_shr a b v) at h)
+pub bit_or_lem : (a b v : ℕ) → Bit (bit_or a b) v → Bit a v ⊎ Bit b v
+bit_or_lem a b v h = or_odd (a / 2 ^ v) (b / 2 ^ v) (rw (or_shr a b v) at h)
 
 -- the number 2 ^ k has the bit k alone
 even_pow : (d : ℕ) → 2 ^ suc d % 2 ≡ 0

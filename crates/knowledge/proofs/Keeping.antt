@@ -9,7 +9,7 @@ use lib.Bits.{bit_or}
 use Rattle.prelude.specs.Lists.{at}
 use Rattle.prelude.proofs.Lists.{at_set}
 use Rattle.knowledge.specs.Knows.{Bit, Labels, Masks, Marks, Knows, SmallCodes, Same, Differ, Means, Kept}
-use Rattle.knowledge.proofs.Bits.{bit_or, bit_pow, bit_full}
+use Rattle.knowledge.proofs.Bits.{bit_or_lem, bit_pow, bit_full}
 
 -- nothing changes
 pub stay : {If A : (ℕ → ℕ) → Type 0} → Kept If A A
@@ -60,7 +60,7 @@ masks_set w k s =
             | inl e ↦ h i (rw e at b)
             | inr e ↦
                 let b' : Bit (bit_or (at w k) s) (c k) = rw (e.1, ap c e.0) at b in
-                elim (bit_or (at w k) s (c k) b') [ inl g ↦ h k g | inr g ↦ d g ]
+                elim (bit_or_lem (at w k) s (c k) b') [ inl g ↦ h k g | inr g ↦ d g ]
           ];
     }
 
@@ -88,7 +88,7 @@ marks_put m a b s hb hs =
             | inr n ↦
                 let bit' : Bit (bit_or (at m x) s) v = rw n.1 at bit in
                 let e' : c (x / 2) ≡ c (x % 2 * 64 + v) = rw n.0 at e in
-                elim (bit_or (at m x) s v bit') [
+                elim (bit_or_lem (at m x) s v bit') [
                   | inl g ↦ k x v hv g e'
                   | inr g ↦
                       let w : v ≡ b % 64 = bit_pow (b % 64) v (rw hs at g) in
@@ -104,4 +104,4 @@ differ_sym a b c d e = d (sym e)
 -- no code is left to two terms whose masks together strike out all of them
 pub masks_apart : (x y a b : ℕ) → bit_or x y ≡ 65535 → (c : ℕ → ℕ) → SmallCodes c → (Bit x (c a) → ⊥) → (Bit y (c b) → ⊥) → Differ a b c
 masks_apart x y a b full c s p q e =
-    elim (bit_or x y (c a) (rw full (bit_full (c a) (s a)))) [ inl g ↦ p g | inr g ↦ q (rw e at g) ]
+    elim (bit_or_lem x y (c a) (rw full (bit_full (c a) (s a)))) [ inl g ↦ p g | inr g ↦ q (rw e at g) ]
