@@ -14,7 +14,7 @@ use Rattle.logic.specs.Order.{sizes_of, sum_of, NoLater}
 use Rattle.logic.proofs.Codes.{reached_in_params, same_code, same_codes, satisfies_same}
 use Rattle.tables.specs.Layout.{decoded, encoded}
 use Rattle.tables.proofs.Tables.{encoded_size, decoded_cell}
-use Rattle.answer.specs.Answer.{Entry, sum}
+use Rattle.answer.specs.Answer.{Entry}
 use Rattle.answer.specs.Demand.{Answers, AnswersAt, Unreached, Unforced}
 
 -- N has M's sizes, and its tables hold what M's hold
