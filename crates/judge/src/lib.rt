@@ -32,8 +32,8 @@ pub fn judge(sheet: &[u8], tables: &[u8]) -> Judgement
 
 // The table of a symbol: the very stretch of the caller's tables, empty where the call is turned down.
 pub fn table_of<'a>(sheet: &[u8], tables: &'a [u8], symbol: usize) -> &'a [u8]
-    ensures result_value { result.now ≡ stretch tables.now (table_of sheet.now tables.now symbol) }
-    ensures ref_ptr_value { (result.ref_ptr.0 ≡ tables.entry.ref_ptr.0) × (result.ref_ptr.1 ≡ tables.entry.ref_ptr.1 + (table_of sheet.now tables.now symbol).start) }
+    ensures bytes { result.now ≡ stretch tables.now (table_of sheet.now tables.now symbol) }
+    ensures place { (result.ref_ptr.0 ≡ tables.entry.ref_ptr.0) × (result.ref_ptr.1 ≡ tables.entry.ref_ptr.1 + (table_of sheet.now tables.now symbol).start) }
 {
     let span = table_span(sheet, tables, symbol);
     let start = span.start;

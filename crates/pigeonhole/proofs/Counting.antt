@@ -156,9 +156,6 @@ pairs_counted n symbol arg0 arg1 l w list firsts seconds k x y few of first seco
           };
     }
 
-pub settled_counted : (n : ℕ) (symbol arg0 arg1 l w list : List ℕ) (k r : ℕ) → Means (λ c. SmallCodes c × (Labels l c × Masks w c)) (Counted list k r) → Means (LawfulGrouped n symbol arg0 arg1 l w) (Counted list k r)
-settled_counted n symbol arg0 arg1 l w list k r p = record { means = λ c s. p.means c (s.lawful.small, (s.labels, s.masks)) }
-
 -- a crowd has one symbol, and no codes are known of one with more terms than what counts them
 pub crowd_symbol : {n : ℕ} {symbol l w m : List ℕ} {f i : ℕ} {chosen : List ℕ} {k : ℕ} → Gathered n symbol l w m f i chosen k → OneSymbol n symbol chosen k
 crowd_symbol g = record { terms = g.terms; symbols = λ a b ha hb. g.symbols a ha ∙ sym (g.symbols b hb) }
@@ -190,8 +187,8 @@ both a b h =
       ]
     ]
 
-bit_and : (a b v : ℕ) → Bit (bit_and a b) v → Bit a v × Bit b v
-bit_and a b v h = both (a / 2 ^ v) (b / 2 ^ v) (rw (and_shr a b v) at h)
+bit_and_lem : (a b v : ℕ) → Bit (bit_and a b) v → Bit a v × Bit b v
+bit_and_lem a b v h = both (a / 2 ^ v) (b / 2 ^ v) (rw (and_shr a b v) at h)
 
 -- the empty crowd, a term that is passed over, the last of the terms, and one that is taken
 pub nobody : (n : ℕ) (symbol l w m : List ℕ) (f : ℕ) → Gathered n symbol l w m f 0 (replicate 128 0) 0
@@ -266,8 +263,8 @@ pub common_more : (l w list : List ℕ) (k x y g : ℕ) → Means (λ c. Labels 
 common_more l w list k x y g old lg free =
     record {
       means = λ c h.
-          below_more _ k (λ a ha b. old.means c h a ha (bit_and x y _ b).0)
-          (λ b. free.means c h.1 (subst (Bit y) (sym (lg.means c h.0)) (bit_and x y _ b).1));
+          below_more _ k (λ a ha b. old.means c h a ha (bit_and_lem x y _ b).0)
+          (λ b. free.means c h.1 (subst (Bit y) (sym (lg.means c h.0)) (bit_and_lem x y _ b).1));
     }
 
 pub arguments_more : (args list : List ℕ) (k : ℕ) (r : List ℕ) (v t : ℕ) → k < length r → Arguments args list k r → t ≡ at list k → (t < 128 → v ≡ at args t) → Arguments args list (k + 1) (set r k v)

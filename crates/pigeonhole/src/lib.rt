@@ -16,7 +16,7 @@ use prelude::{BYTE_VALUES, MISSING, MOST_CODES, MOST_TERMS, wide};
 const LEVELS: usize = 3;
 
 // Terms of one symbol whose codes all differ: the first of those that are chosen.
-#[derive(Clone, Copy)]
+#[derive(Drop)]
 struct Crowd {
     chosen: [u8; MOST_TERMS],
     count: usize,

@@ -5,12 +5,10 @@ use Rattle.knowledge.proofs.join.Goals as goal
 
 pub returns-then-a-b : goal.returns-then-a-b
 returns-then-a-b c =
-    let there = c in
-    let p = there.args in
-    step (λ a e k. k.labels p.i there.if-i-ge-MOST_TERMS.false ∙ e ∙ sym (k.labels p.j there.if-j-ge-MOST_TERMS.false)) c.merge.ensures
+    let p = c.args in
+    step (λ a e k. k.labels p.i c.if-i-ge-MOST_TERMS.false ∙ e ∙ sym (k.labels p.j c.if-j-ge-MOST_TERMS.false)) c.merge.ensures
 
 pub returns-then-b-a : goal.returns-then-b-a
 returns-then-b-a c =
-    let there = c in
-    let p = there.args in
-    step (λ a e k. k.labels p.j there.if-j-ge-MOST_TERMS.false ∙ sym e ∙ sym (k.labels p.i there.if-i-ge-MOST_TERMS.false)) c.merge-then-b-a.ensures
+    let p = c.args in
+    step (λ a e k. k.labels p.j c.if-j-ge-MOST_TERMS.false ∙ sym e ∙ sym (k.labels p.i c.if-i-ge-MOST_TERMS.false)) c.merge-then-b-a.ensures

@@ -6,10 +6,9 @@ use Rattle.knowledge.proofs.merge.Goals as goal
 
 pub returns : goal.returns
 returns c =
-    let strike = c in
-    let to = strike.wide-3.ensures.0 in
-    let mask = strike.mask-s in
-    let from = strike.wide-2.ensures.0 in
-    chain (in_labels strike.relabel.ensures)
-    (chain (step (λ x e k g. mask.ensures.means x k.masks (subst (Bit mask.result) (ap x to ∙ e ∙ sym (ap x from)) g)) (in_masks strike.strike.ensures))
+    let to = c.wide-3.ensures.0 in
+    let mask = c.mask-s in
+    let from = c.wide-2.ensures.0 in
+    chain (in_labels c.relabel.ensures)
+    (chain (step (λ x e k g. mask.ensures.means x k.masks (subst (Bit mask.result) (ap x to ∙ e ∙ sym (ap x from)) g)) (in_masks c.strike.ensures))
     (chain (in_marks {m' = c.unite_half.new.marks} c.unite_half.ensures) (in_marks c.unite_half-2.ensures)))

@@ -5,5 +5,4 @@ use Rattle.knowledge.proofs.unite_one.Goals as goal
 
 pub returns-then-marked : goal.returns-then-marked
 returns-then-marked c =
-    let m = c in
-    step (λ x e k d. (m.marked.ensures c.if-marked.true).means x k (ap x m.wide.ensures.0 ∙ sym e ∙ sym (ap x c.wide-then-marked.ensures.0) ∙ d)) c.mark.ensures
+    step (λ x e k d. (c.marked.ensures c.if-marked.true).means x k (ap x c.wide.ensures.0 ∙ sym e ∙ sym (ap x c.wide-then-marked.ensures.0) ∙ d)) c.mark.ensures

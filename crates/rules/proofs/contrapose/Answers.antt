@@ -6,28 +6,24 @@ use Rattle.rules.proofs.contrapose.Goals as goal
 
 pub returns-then-x-y : goal.returns-then-x-y
 returns-then-x-y c =
-    let told = c in
-    let start = told in
-    let p = start.args in
-    let one = told.wide in
-    let two = told.wide-2 in
+    let p = c.args in
+    let one = c.wide in
+    let two = c.wide-2 in
     let differ =
-    results_differ p.n p.symbol.now p.arg0.now p.arg1.now p.labels.now p.masks.now p.marks.now p.i p.j start.requires.0 start.requires.1
-    told.if-n-j.false told.if-f-g.false one.result two.result one.ensures.0 two.ensures.0 (told.apart.ensures (told.if-not-apart.false)) in
+    results_differ p.n p.symbol.now p.arg0.now p.arg1.now p.labels.now p.masks.now p.marks.now p.i p.j c.requires.0 c.requires.1
+    c.if-n-j.false c.if-f-g.false one.result two.result one.ensures.0 two.ensures.0 (c.apart.ensures (c.if-not-apart.false)) in
     step (λ a s m e. differ a s m
     (sym (ap a c.wide-then-x-y.ensures.0 ∙ c.argument-a.ensures.means a s.labels) ∙ e ∙ ap a c.wide-then-x-y-2.ensures.0 ∙ c.argument-b.ensures.means a s.labels)
     (sym (c.argument-x.ensures.means a s.labels) ∙ ap a c.if-x-y.true ∙ c.argument-y.ensures.means a s.labels)) c.mark.ensures
 
 pub returns-then-a-b : goal.returns-then-a-b
 returns-then-a-b c =
-    let told = c in
-    let start = told in
-    let p = start.args in
-    let one = told.wide in
-    let two = told.wide-2 in
+    let p = c.args in
+    let one = c.wide in
+    let two = c.wide-2 in
     let differ =
-    results_differ p.n p.symbol.now p.arg0.now p.arg1.now p.labels.now p.masks.now p.marks.now p.i p.j start.requires.0 start.requires.1
-    told.if-n-j.false told.if-f-g.false one.result two.result one.ensures.0 two.ensures.0 (told.apart.ensures (told.if-not-apart.false)) in
+    results_differ p.n p.symbol.now p.arg0.now p.arg1.now p.labels.now p.masks.now p.marks.now p.i p.j c.requires.0 c.requires.1
+    c.if-n-j.false c.if-f-g.false one.result two.result one.ensures.0 two.ensures.0 (c.apart.ensures (c.if-not-apart.false)) in
     step (λ a s m e. differ a s m
     (sym (c.argument-a.ensures.means a s.labels) ∙ ap a c.if-a-b.true ∙ c.argument-b.ensures.means a s.labels)
     (sym (ap a c.wide-then-a-b.ensures.0 ∙ c.argument-x.ensures.means a s.labels) ∙ e ∙ ap a c.wide-then-a-b-2.ensures.0 ∙ c.argument-y.ensures.means a s.labels)) c.mark-then-a-b.ensures

@@ -7,21 +7,19 @@ use Rattle.starting.proofs.start_mask.Goals as goal
 
 pub returns-then-code : goal.returns-then-code
 returns-then-code c =
-    let sized = c in
-    let p = sized.args in
+    let p = c.args in
     let i = p.i in
-    let beyond = sized.beyond in
-    let right : Means (Labels p.labels.now) (Same sized.wide.result i) = label_code p.labels.now i _ (omega arith) sized.wide.ensures.0 in
-    step (λ a f w. group_free _ i beyond.result a (right.means a f.labels) (beyond.ensures.beyond (a i) (f.small i) (rw sized.wide-2.ensures.0 (f.range i (omega arith))))) sized.strike.ensures
+    let beyond = c.beyond in
+    let right : Means (Labels p.labels.now) (Same c.wide.result i) = label_code p.labels.now i _ (omega arith) c.wide.ensures.0 in
+    step (λ a f w. group_free _ i beyond.result a (right.means a f.labels) (beyond.ensures.beyond (a i) (f.small i) (rw c.wide-2.ensures.0 (f.range i (omega arith))))) c.strike.ensures
 
 pub returns : goal.returns
 returns c =
-    let sized = c in
-    let p = sized.args in
+    let p = c.args in
     let i = p.i in
-    let beyond = sized.beyond in
-    let right : Means (Labels p.labels.now) (Same sized.wide.result i) = label_code p.labels.now i _ (omega arith) sized.wide.ensures.0 in
+    let beyond = c.beyond in
+    let right : Means (Labels p.labels.now) (Same c.wide.result i) = label_code p.labels.now i _ (omega arith) c.wide.ensures.0 in
     let all_but = c.all_but in
     let again : Means (Labels p.labels.now) (Same c.wide-3.result i) = label_code p.labels.now i _ (omega arith) c.wide-3.ensures.0 in
-    chain (step (λ a f w. group_free _ i beyond.result a (right.means a f.labels) (beyond.ensures.beyond (a i) (f.small i) (rw sized.wide-2.ensures.0 (f.range i (omega arith))))) sized.strike.ensures)
+    chain (step (λ a f w. group_free _ i beyond.result a (right.means a f.labels) (beyond.ensures.beyond (a i) (f.small i) (rw c.wide-2.ensures.0 (f.range i (omega arith))))) c.strike.ensures)
     (step (λ a f w. group_free _ i all_but.result a (again.means a f.labels) (λ b. all_but.ensures (rw (f.fixed i (omega arith) c.if-code.false) at b))) c.strike-2.ensures)

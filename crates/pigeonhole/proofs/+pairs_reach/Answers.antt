@@ -1,0 +1,13 @@
+-- `pigeonhole::pairs` and `pigeonhole::reach` meet their contracts.
+use Rattle.pigeonhole.proofs.Counting.{pairs_counted}
+use Rattle.prelude.proofs.Rows.{table_most}
+use Rattle.pigeonhole.proofs.+pairs_reach.Goals as goal
+
+pub pairs-returns : goal.pairs-returns
+pairs-returns t c =
+    let p = c.args in
+    let x = c.reach-x.ensures in
+    let y = c.reach-y.ensures in (
+      pairs_counted _ _ _ _ p.labels.now p.masks.now p.list.now c.arguments-firsts.result c.arguments-seconds.result _ _ _ c.requires.n_le_most_terms.0 c.requires.one_symbol c.arguments-firsts.ensures c.arguments-seconds.ensures x.0 y.0,
+      table_most _ _ x.1 y.1,
+    )
