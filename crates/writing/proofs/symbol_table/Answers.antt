@@ -1,4 +1,4 @@
--- `writing::symbol_table` meets its contract: the terms passed have been put into the table of unforced codes, t₀ in the invariant.
+-- `writing::symbol_table` meets its contract: the terms passed have been put into the table of unforced codes, the table at the loop's start.
 use Prim.Native.Nat.{◌-◌}
 use mathlib.Core.Path.{refl, sym, ap, ◌∙◌}
 use native.Mathlib.Nat.{le_refl}
@@ -14,21 +14,6 @@ pub loop-i-init : goal.loop-i-init
 loop-i-init c =
     let m = c in
     (le_refl _, from_none (view m.args.p) (at m.args.codes) m.args.symbol 16 16 c.unforced_table-t.result)
-
-pub wide-requires : goal.wide-requires
-wide-requires c = tt
-
-pub wide-a-requires : goal.wide-a-requires
-wide-a-requires c = tt
-
-pub wide-b-requires : goal.wide-b-requires
-wide-b-requires c = tt
-
-pub wide-requires-then-wide-symbol : goal.wide-requires-then-wide-symbol
-wide-requires-then-wide-symbol c = tt
-
-pub wide-requires-then-wide-symbol-2 : goal.wide-requires-then-wide-symbol-2
-wide-requires-then-wide-symbol-2 c = tt
 
 pub with_cell-u-requires : goal.with_cell-u-requires
 with_cell-u-requires c =

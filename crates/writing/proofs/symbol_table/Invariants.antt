@@ -1,4 +1,4 @@
--- `writing::symbol_table` meets its contract: the terms passed have been put into the table of unforced codes, t₀ in the invariant.
+-- `writing::symbol_table` meets its contract: the terms passed have been put into the table of unforced codes, the table at the loop's start.
 use Prim.Native.Nat.{◌≤◌}
 use Rattle.prelude.specs.Lists.{at}
 use Rattle.layout.specs.Packed.{view}

@@ -1,11 +1,7 @@
 -- `assembling::with_old_names` meets its contract: the arrays of the names are those of the old sheet.
 use mathlib.Core.Path.{ap₂, ◌∙◌}
 use Rattle.assembling.proofs.Growing.{names_from, names_packed}
-use Rattle.assembling.proofs.with_old_names.Statement.{statement}
-use Rattle.assembling.proofs.with_old_names.Tie as tie
+use Rattle.assembling.proofs.with_old_names.Goals as goal
 
-returns : tie.Need-returns
+pub returns : goal.returns
 returns c sh n size k e = ap₂ names_from e k.same ∙ names_packed sh n size
-
-pub with_old_names_spec : {M : Type 1} → statement M
-with_old_names_spec = tie.close (tie.spec returns)
