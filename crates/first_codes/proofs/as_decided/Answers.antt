@@ -1,0 +1,8 @@
+-- `first_codes::as_decided` meets its contract.
+use borrow.Author.Tests.{eqb-true}
+use borrow.Author.Rules.{rules}
+use borrow.Author.Rules.{rules}
+use Rattle.first_codes.proofs.as_decided.Goals as goal
+
+pub returns : goal.returns
+returns c = λ e d. eqb-true _ _ e
