@@ -1,0 +1,45 @@
+-- `assembling::codes::with_code_symbols` meets its contract: the names of the fields passed stand behind those that were there.
+use Prim.Native.Nat.{ℕ, suc}
+use native.Mathlib.Omega.{arith}
+use mathlib.Core.Path.{◌≡◌, ap, ◌∙◌}
+use mathlib.Core.List.{[], ◌∷◌}
+use Rattle.prelude.specs.Lists.{at, collect}
+use Rattle.prelude.proofs.Lists.{sum_to_grows}
+use Rattle.layout.specs.Packed.{packed}
+use Rattle.fitted_sheet.proofs.Lengths.{length_nested}
+use Rattle.fitted_sheet.specs.FittedSheet.{code_symbol}
+use Rattle.assembling.specs.Parts.{more_symbols}
+use Rattle.assembling.proofs.Growing.{symbols_none, symbols_next, symbols_building, symbols_count}
+use Rattle.assembling.proofs.codes.with_code_symbols.Invariants.{names}
+use Rattle.assembling.proofs.codes.with_code_symbols.Goals as goal
+
+pub loop-s-init : goal.loop-s-init
+loop-s-init c = (omega arith, symbols_none c.args.q (names c.args.sizes))
+
+pub with_symbols_of-out-requires : goal.with_symbols_of-out-requires
+with_symbols_of-out-requires c =
+    let m = c in
+    let l = c.loop-s in
+    let many = symbols_count m.args.q (names m.args.sizes) l.s l.out m.requires.0 l.invariant.1 in (
+      symbols_building m.args.q (names m.args.sizes) l.s l.out m.requires.0 l.invariant.1,
+      many.1 ∙ m.requires.1,
+      omega arith,
+      omega (arith, many.0, m.requires, c.wide-size.ensures.0, length_nested l.s (at m.args.sizes) (λ s k. code_symbol s), sum_to_grows (suc l.s) m.args.n (at m.args.sizes) (omega arith)),
+    )
+
+pub loop-s-preserved : goal.loop-s-preserved
+loop-s-preserved c =
+    let m = c in
+    let l = c.loop-s in (
+      omega arith,
+      symbols_next m.args.q (names m.args.sizes) l.s l.out c.with_symbols_of-out.result l.invariant.1
+          (λ b.
+          c.with_symbols_of-out.ensures b
+          ∙ ap (λ (n : ℕ). packed (more_symbols b.sheet (collect n (λ k. code_symbol l.s ∷ [])))) c.wide-size.ensures.0),
+    )
+
+pub returns : goal.returns
+returns c b =
+    let l = c.loop-s in
+    let last : l.s ≡ c.args.n = omega arith in
+    rw (← last) (l.invariant.1 b)

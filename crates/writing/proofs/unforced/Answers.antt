@@ -1,0 +1,20 @@
+-- `writing::unforced` meets its contract.
+use native.Mathlib.Omega.{arith}
+use mathlib.Core.Path.{◌∙◌}
+use Rattle.writing.proofs.Keeping.{kept_here, filled_here}
+use Rattle.writing.proofs.unforced.Goals as goal
+
+pub returns-then-first-result : goal.returns-then-first-result
+returns-then-first-result c sh size d k h e =
+    let m = c in
+    kept_here sh _ k size d m.args.symbol m.args.row m.args.col h (omega arith) (omega arith)
+
+pub returns-else-first-result : goal.returns-else-first-result
+returns-else-first-result c sh size d k h e =
+    let m = c in
+    e ∙ filled_here sh _ k size d m.args.symbol m.args.row m.args.col h (λ one own. omega arith)
+
+pub returns-else-second : goal.returns-else-second
+returns-else-second c sh size d k h e =
+    let m = c in
+    e ∙ filled_here sh _ k size d m.args.symbol m.args.row m.args.col h (λ one own. omega arith)

@@ -1,0 +1,14 @@
+-- `writing::write_tables` meets its contract: the tables of the symbols passed stand in the buffer, each in its stretch.
+use Prim.Native.Nat.{◌-◌, ◌≤◌}
+use mathlib.Core.Path.{◌≡◌}
+use Rattle.prelude.specs.Lists.{at}
+use Rattle.writing.proofs.Writing.{TablesTo}
+use Rattle.writing.proofs.write_tables.Given as goal
+
+abbrev pub invariant-loop-f : goal.invariant-loop-f
+invariant-loop-f l = TablesTo l.p (at l.sizes) (at l.codes) l.offsets l.initial.out l.f l.out × (l.n ≡ l.p.symbols) × (l.n ≤ 64)
+
+abbrev pub decreases-loop-f : goal.decreases-loop-f
+decreases-loop-f l = l.n - l.f
+
+-- a turn of the loop: the parsed sheet, l.sizes, l.codes and l.offsets; that there is a symbol left; the rows and columns of its table, and its stretch
