@@ -1,7 +1,5 @@
 -- `first_codes::as_decided` meets its contract.
 use borrow.Author.Tests.{eqb-true}
-use borrow.Author.Rules.{rules}
-use borrow.Author.Rules.{rules}
 use Rattle.first_codes.proofs.as_decided.Goals as goal
 
 pub returns : goal.returns

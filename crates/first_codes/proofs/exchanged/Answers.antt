@@ -1,13 +1,9 @@
 -- `first_codes::exchanged` leaves the codes past the terms at 0.
-use Prim.Native.Nat.{◌≤◌, ◌-◌}
-use mathlib.Core.Path.{◌≡◌, ◌∙◌}
+use mathlib.Core.Path.{◌∙◌}
 use native.Mathlib.Omega.{arith}
-use lib.ListN.{length, length-set}
-use Rattle.prelude.specs.Lists.{at}
+use lib.ListN.{length-set}
 use Rattle.layout.specs.Packed.{view}
-use Rattle.consistency.specs.Searchable.{Padded}
 use Rattle.first_codes.proofs.Lowering.{padded_set}
-use borrow.Author.Rules.{rules}
 use Rattle.first_codes.proofs.exchanged.Goals as goal
 
 pub loop-i-preserved : goal.loop-i-preserved

@@ -1,13 +1,10 @@
 -- `first_codes::exchanged` leaves the codes past the terms at 0.
 use Prim.Native.Nat.{◌≤◌, ◌-◌}
-use mathlib.Core.Path.{◌≡◌, ◌∙◌}
-use native.Mathlib.Omega.{arith}
-use lib.ListN.{length, length-set}
+use mathlib.Core.Path.{◌≡◌}
+use lib.ListN.{length}
 use Rattle.prelude.specs.Lists.{at}
 use Rattle.layout.specs.Packed.{view}
 use Rattle.consistency.specs.Searchable.{Padded}
-use Rattle.first_codes.proofs.Lowering.{padded_set}
-use borrow.Author.Rules.{rules}
 use Rattle.first_codes.proofs.exchanged.Given as goal
 
 abbrev pub invariant-loop-i : goal.invariant-loop-i

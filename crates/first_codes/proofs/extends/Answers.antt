@@ -1,13 +1,7 @@
 -- `first_codes::extends` meets its contract: the terms passed keep to the decisions.
-use Prim.Native.Nat.{ℕ, ◌≤◌, ◌<◌, ◌-◌}
 use mathlib.Core.Bool.{false≢true}
-use mathlib.Core.Path.{◌≡◌}
 use native.Mathlib.Omega.{arith}
 use borrow.Author.Count.{below_more}
-use borrow.Author.Tests.{not-false}
-use Rattle.prelude.specs.Limits.{undecided}
-use Rattle.prelude.specs.Lists.{at}
-use borrow.Author.Rules.{rules}
 use Rattle.first_codes.proofs.extends.Goals as goal
 
 pub returns-then-not-as_decided : goal.returns-then-not-as_decided

@@ -1,14 +1,12 @@
 -- `first_codes::first_codes` meets its contract: the terms passed are as low as they can be, and decided.
-use Prim.Native.Nat.{ℕ, ◌≤◌, ◌<◌, ◌-◌}
+use Prim.Native.Nat.{ℕ, ◌<◌}
 use mathlib.Core.Path.{◌≡◌, refl}
 use native.Mathlib.Omega.{arith}
 use lib.ListN.{replicate, get_or-replicate}
 use borrow.Author.Tests.{not-true, not-false}
 use Rattle.prelude.specs.Limits.{undecided}
-use Rattle.layout.specs.Packed.{view}
 use Rattle.prelude.specs.Lists.{at}
-use Rattle.first_codes.proofs.Lowering.{Lowered, lowered_none, lowered_more, lowered_all, lowered_extends, lowered_pending, nothing_decided}
-use borrow.Author.Rules.{rules}
+use Rattle.first_codes.proofs.Lowering.{lowered_none, lowered_more, lowered_all, lowered_extends, lowered_pending, nothing_decided}
 use Rattle.first_codes.proofs.first_codes.Goals as goal
 
 all_undecided : (j : ℕ) → j < 256 → at (replicate {A = ℕ} 256 255) j ≡ undecided

@@ -1,12 +1,7 @@
 -- `first_codes::lower` meets its contract: every smaller code passed that is worth trying is dead.
-use Prim.Native.Nat.{◌≤◌, ◌-◌}
-use mathlib.Core.Logic.{inl, inr}
 use native.Mathlib.Omega.{arith}
-use Rattle.layout.specs.Packed.{view}
-use Rattle.prelude.specs.Lists.{at}
-use Rattle.solve.proofs.Branching.{code_decided, Tried, tried_dead, tried_not}
+use Rattle.solve.proofs.Branching.{code_decided, tried_dead, tried_not}
 use Rattle.first_codes.proofs.Lowering.{lowest_zero, lowest_dead, lowest_found, lowest_kept}
-use borrow.Author.Rules.{rules}
 use Rattle.first_codes.proofs.lower.Goals as goal
 use Rattle.first_codes.proofs.lower.Goals.{then-worth+else-r, else-worth}
 
@@ -69,8 +64,7 @@ loop-v-smaller c = let h = c.loop-v-test.true in omega arith
 pub loop-v-preserved : goal.loop-v-preserved
 loop-v-preserved c =
     let h = c.loop-v-test.true in
-    let k = c.loop-v.invariant.1 in
-    (
+    let k = c.loop-v.invariant.1 in (
       omega arith,
       elim c.if-worth.branch [
         | then-worth+else-r w ↦ tried_dead _ _ c.args.decided c.args.term _ _ _ _ _ k _ w.decide-next.ensures (w.solve-r.ensures.none w.if-r.false)

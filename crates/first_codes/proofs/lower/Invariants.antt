@@ -1,12 +1,8 @@
 -- `first_codes::lower` meets its contract: every smaller code passed that is worth trying is dead.
 use Prim.Native.Nat.{◌≤◌, ◌-◌}
-use mathlib.Core.Logic.{inl, inr}
-use native.Mathlib.Omega.{arith}
 use Rattle.layout.specs.Packed.{view}
 use Rattle.prelude.specs.Lists.{at}
-use Rattle.solve.proofs.Branching.{code_decided, Tried, tried_dead, tried_not}
-use Rattle.first_codes.proofs.Lowering.{lowest_zero, lowest_dead, lowest_found, lowest_kept}
-use borrow.Author.Rules.{rules}
+use Rattle.solve.proofs.Branching.{Tried}
 use Rattle.first_codes.proofs.lower.Given as goal
 
 abbrev pub invariant-loop-v : goal.invariant-loop-v

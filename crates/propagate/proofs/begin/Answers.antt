@@ -1,6 +1,5 @@
 -- `propagate::begin` meets its contract: the literals hold of all consistent codes.
 use Rattle.propagate.proofs.Knowing.{begun}
-use borrow.Author.Rules.{rules}
 use Rattle.propagate.proofs.begin.Goals as goal
 
 pub returns : goal.returns

@@ -1,6 +1,5 @@
 -- `propagate::degrees` is safe and ends; it promises nothing.
 use Prim.Native.Nat.{◌-◌, ◌≤◌}
-use borrow.Author.Rules.{rules}
 use Rattle.propagate.proofs.degrees.Given as goal
 
 abbrev pub invariant-loop-i : goal.invariant-loop-i

@@ -1,6 +1,5 @@
 -- `propagate::join_moved` meets its contract.
 use Rattle.knowledge.proofs.Keeping.{stay, step}
-use borrow.Author.Rules.{rules}
 use Rattle.propagate.proofs.join_moved.Goals as goal
 
 pub returns-then-joined : goal.returns-then-joined

@@ -1,6 +1,5 @@
 -- `propagate::live` is safe and ends; it promises nothing.
 use Prim.Native.Nat.{◌-◌, ◌≤◌, ◌<◌}
-use borrow.Author.Rules.{rules}
 use Rattle.propagate.proofs.live.Given as goal
 
 abbrev pub invariant-loop-k : goal.invariant-loop-k

@@ -6,7 +6,6 @@ use Rattle.logic.specs.Problem.{Consistent, Extends}
 use Rattle.layout.specs.Packed.{view}
 use Rattle.knowledge.specs.Knows.{Knows}
 use Rattle.propagate.proofs.Knowing.{known}
-use borrow.Author.Rules.{rules}
 use Rattle.propagate.proofs.propagate.Goals as goal
 
 pub uses-used-requires : goal.uses-used-requires

@@ -1,6 +1,5 @@
 -- `propagate::round` meets its contract: one rule after the other.
 use Rattle.knowledge.proofs.Keeping.{step, chain, in_masks, in_marks}
-use borrow.Author.Rules.{rules}
 use Rattle.propagate.proofs.round.Goals as goal
 
 pub returns-then-strike_marked-joins : goal.returns-then-strike_marked-joins

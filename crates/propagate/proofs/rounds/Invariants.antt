@@ -1,11 +1,7 @@
 -- `propagate::rounds` meets its contract.
 use Prim.Native.Nat.{◌-◌, ◌≤◌}
-use borrow.Author.Tests.{ltb-true}
 use Rattle.knowledge.specs.Knows.{Kept, Knows}
-use Rattle.knowledge.proofs.Keeping.{stay, chain}
 use Rattle.rules.specs.Reasons.{Lawful}
-use native.Mathlib.Omega.{arith}
-use borrow.Author.Rules.{rules}
 use Rattle.propagate.proofs.rounds.Given as goal
 
 abbrev pub invariant-loop-news : goal.invariant-loop-news

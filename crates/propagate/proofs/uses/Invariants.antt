@@ -1,6 +1,5 @@
 -- `propagate::uses` is safe and ends; it promises nothing.
 use Prim.Native.Nat.{◌-◌, ◌≤◌}
-use borrow.Author.Rules.{rules}
 use Rattle.propagate.proofs.uses.Given as goal
 
 abbrev pub invariant-loop-i : goal.invariant-loop-i

@@ -1,5 +1,5 @@
 -- `solve::descend` meets its contract.
-use Prim.Native.Nat.{ℕ, ◌≤◌, ◌<◌, ◌-◌}
+use Prim.Native.Nat.{ℕ, ◌<◌}
 use mathlib.Core.Path.{sym, subst}
 use mathlib.Core.List.{List}
 use native.Mathlib.Omega.{arith}
@@ -52,8 +52,8 @@ descend-r-requires t c =
         c.requires.searchable,
         (
           c.requires.small_sizes,
-          knowing_decided _ _ _ _ _ c.args.decided _ c.node-n.result.term c.loop-v.v c.propagate-o.ensures.knowing b.pending c.decide-next.ensures
-        )
+          knowing_decided _ _ _ _ _ c.args.decided _ c.node-n.result.term c.loop-v.v c.propagate-o.ensures.knowing b.pending c.decide-next.ensures,
+        ),
       ),
     )
 

@@ -4,7 +4,6 @@ use mathlib.Core.Path.{refl, ap, ◌∙◌}
 use native.Mathlib.Omega.{arith}
 use Rattle.prelude.specs.Lists.{at}
 use Rattle.solve.proofs.Branching.{branch_planned}
-use borrow.Author.Rules.{rules}
 use Rattle.solve.proofs.branch.Goals as goal
 
 pub bounds-sizes-s : goal.bounds-sizes-s

@@ -1,6 +1,5 @@
 -- `solve::choose` is safe and ends.
 use Prim.Native.Nat.{◌≤◌, ◌-◌}
-use borrow.Author.Rules.{rules}
 use Rattle.solve.proofs.choose.Given as goal
 
 abbrev pub invariant-loop-i : goal.invariant-loop-i

@@ -1,12 +1,10 @@
 -- `solve::codes_in_use` meets its contract: the codes of the terms passed are flagged.
-use Prim.Native.Nat.{ℕ, ◌+◌, ◌≤◌, ◌-◌}
+use Prim.Native.Nat.{ℕ, ◌+◌}
 use mathlib.Core.Path.{refl, sym, subst}
 use mathlib.Core.List.{List}
-use mathlib.Core.Logic.{inl, inr}
 use native.Mathlib.Omega.{arith}
 use Rattle.prelude.specs.Lists.{at}
 use Rattle.solve.proofs.Branching.{Flagged, flagged_more, flagged_high, flagged_other}
-use borrow.Author.Rules.{rules}
 use Rattle.solve.proofs.codes_in_use.Goals as goal
 use Rattle.solve.proofs.codes_in_use.Goals.{then-p-j+then-v-lt-MOST_CODES, then-p-j+else-v-lt-MOST_CODES, else-p-j}
 

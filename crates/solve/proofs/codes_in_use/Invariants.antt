@@ -1,12 +1,7 @@
 -- `solve::codes_in_use` meets its contract: the codes of the terms passed are flagged.
-use Prim.Native.Nat.{ℕ, ◌+◌, ◌≤◌, ◌-◌}
-use mathlib.Core.Path.{refl, sym, subst}
-use mathlib.Core.List.{List}
-use mathlib.Core.Logic.{inl, inr}
-use native.Mathlib.Omega.{arith}
+use Prim.Native.Nat.{◌≤◌, ◌-◌}
 use Rattle.prelude.specs.Lists.{at}
-use Rattle.solve.proofs.Branching.{Flagged, flagged_more, flagged_high, flagged_other}
-use borrow.Author.Rules.{rules}
+use Rattle.solve.proofs.Branching.{Flagged}
 use Rattle.solve.proofs.codes_in_use.Given as goal
 
 abbrev pub invariant-loop-j : goal.invariant-loop-j

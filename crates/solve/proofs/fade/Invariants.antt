@@ -1,6 +1,5 @@
 -- `solve::fade` is safe and ends.
 use Prim.Native.Nat.{◌≤◌, ◌-◌}
-use borrow.Author.Rules.{rules}
 use Rattle.solve.proofs.fade.Given as goal
 
 abbrev pub invariant-loop-k : goal.invariant-loop-k

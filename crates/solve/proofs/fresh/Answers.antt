@@ -1,10 +1,6 @@
 -- `solve::fresh` meets its contract: every code passed is in use.
-use Prim.Native.Nat.{ℕ, ◌≤◌, ◌<◌, ◌-◌}
-use mathlib.Core.Path.{◌≡◌}
 use native.Mathlib.Omega.{arith}
 use borrow.Author.Count.{below_more}
-use Rattle.prelude.specs.Lists.{at}
-use borrow.Author.Rules.{rules}
 use Rattle.solve.proofs.fresh.Goals as goal
 
 pub returns-then-flags-v-ne1 : goal.returns-then-flags-v-ne1

@@ -1,10 +1,7 @@
 -- `solve::fresh` meets its contract: every code passed is in use.
 use Prim.Native.Nat.{ℕ, ◌≤◌, ◌<◌, ◌-◌}
 use mathlib.Core.Path.{◌≡◌}
-use native.Mathlib.Omega.{arith}
-use borrow.Author.Count.{below_more}
 use Rattle.prelude.specs.Lists.{at}
-use borrow.Author.Rules.{rules}
 use Rattle.solve.proofs.fresh.Given as goal
 
 abbrev pub invariant-loop-v : goal.invariant-loop-v

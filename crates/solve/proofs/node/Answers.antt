@@ -1,6 +1,5 @@
 -- `solve::node` meets its contract: every way out is dead, found, or a branch.
 use Rattle.solve.proofs.Branching.{dead_node, found_node, planned_node, read_dead, read_extends}
-use borrow.Author.Rules.{rules}
 use Rattle.solve.proofs.node.Goals as goal
 
 pub returns-then-dead : goal.returns-then-dead

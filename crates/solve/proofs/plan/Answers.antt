@@ -1,6 +1,5 @@
 -- `solve::plan` meets its contract.
 use Rattle.solve.proofs.Branching.{fit_mask, knowing_struck, dead_planned}
-use borrow.Author.Rules.{rules}
 use Rattle.solve.proofs.plan.Goals as goal
 
 pub propagate-o-requires : goal.propagate-o-requires

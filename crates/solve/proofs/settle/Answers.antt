@@ -1,14 +1,12 @@
 -- `solve::settle` meets its contract: the codes of the terms passed are read off.
-use Prim.Native.Nat.{ℕ, ◌+◌, ◌≤◌, ◌<◌, ◌-◌}
+use Prim.Native.Nat.{ℕ, ◌+◌, ◌<◌}
 use mathlib.Core.Path.{refl, sym, subst}
 use mathlib.Core.List.{List}
-use mathlib.Core.Logic.{inl, inr}
 use native.Mathlib.Omega.{arith}
 use Rattle.layout.specs.Packed.{view}
 use Rattle.prelude.specs.Lists.{at}
 use Rattle.solve.specs.Parts.{ReadOff}
 use Rattle.solve.proofs.Branching.{ReadingOff, read_none, read_decided, read_only}
-use borrow.Author.Rules.{rules}
 use Rattle.solve.proofs.settle.Goals as goal
 use Rattle.solve.proofs.settle.Goals.{then-d+else-v-ge-MOST_CODES, else-d}
 

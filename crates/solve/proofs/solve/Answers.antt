@@ -1,5 +1,4 @@
 -- `solve::solve` meets its contract: what the literals say is known at first.
-use borrow.Author.Rules.{rules}
 use Rattle.solve.proofs.solve.Goals as goal
 
 pub descend-requires : goal.descend-requires

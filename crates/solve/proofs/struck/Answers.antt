@@ -1,6 +1,5 @@
 -- `solve::struck` meets its contract: the test is the definition.
 use Rattle.prelude.proofs.Tests.{eqb_decides}
-use borrow.Author.Rules.{rules}
 use Rattle.solve.proofs.struck.Goals as goal
 
 pub returns : goal.returns

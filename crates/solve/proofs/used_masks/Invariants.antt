@@ -1,6 +1,5 @@
 -- `solve::used_masks` is safe and ends.
 use Prim.Native.Nat.{◌≤◌, ◌-◌}
-use borrow.Author.Rules.{rules}
 use Rattle.solve.proofs.used_masks.Given as goal
 
 abbrev pub invariant-loop-i : goal.invariant-loop-i

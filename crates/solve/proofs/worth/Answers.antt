@@ -2,7 +2,6 @@
 use native.Mathlib.Omega.{arith}
 use Rattle.prelude.proofs.Tests.{answer_no}
 use Rattle.solve.proofs.Branching.{worth_yes, worth_used}
-use borrow.Author.Rules.{rules}
 use Rattle.solve.proofs.worth.Goals as goal
 
 pub returns-then-size-v : goal.returns-then-size-v
