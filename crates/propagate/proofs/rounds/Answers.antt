@@ -4,15 +4,6 @@ use Rattle.knowledge.proofs.Keeping.{stay, chain}
 use native.Mathlib.Omega.{arith}
 use Rattle.propagate.proofs.rounds.Goals as goal
 
-pub loop-news-init : goal.loop-news-init
-loop-news-init c = (omega arith, omega arith, stay)
-
-pub overflow_add-done : goal.overflow_add-done
-overflow_add-done c = omega (arith, ltb-true)
-
-pub loop-news-smaller : goal.loop-news-smaller
-loop-news-smaller c = omega (arith, ltb-true)
-
 pub loop-news-preserved : goal.loop-news-preserved
 loop-news-preserved c = (omega arith, omega (arith, ltb-true), chain c.loop-news.invariant.2 c.round-news.ensures)
 

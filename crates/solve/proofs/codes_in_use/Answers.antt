@@ -8,12 +8,6 @@ use Rattle.solve.proofs.Branching.{Flagged, flagged_more, flagged_high, flagged_
 use Rattle.solve.proofs.codes_in_use.Goals as goal
 use Rattle.solve.proofs.codes_in_use.Goals.{then-p-j+then-v-lt-MOST_CODES, then-p-j+else-v-lt-MOST_CODES, else-p-j}
 
-pub loop-j-init : goal.loop-j-init
-loop-j-init c = (omega arith, record { length = refl; all = λ k h. omega arith })
-
-pub bounds-flags-v : goal.bounds-flags-v
-bounds-flags-v c = c.if-v-lt-MOST_CODES.true
-
 pub loop-j-preserved : goal.loop-j-preserved
 loop-j-preserved c =
     let f = c.loop-j.invariant.1 in
