@@ -6,7 +6,7 @@ use lib.ListN.{replicate, get_or-replicate}
 use borrow.Author.Tests.{not-true, not-false}
 use Rattle.prelude.specs.Limits.{undecided}
 use Rattle.prelude.specs.Lists.{at}
-use Rattle.first_codes.proofs.Lowering.{lowered_none, lowered_more, lowered_all, lowered_extends, lowered_pending, nothing_decided}
+use Rattle.first_codes.proofs.Lowering.{lowered_none, lowered_more, lowered_all, nothing_decided}
 use Rattle.first_codes.proofs.first_codes.Goals as goal
 
 all_undecided : (j : ℕ) → j < 256 → at (replicate {A = ℕ} 256 255) j ≡ undecided

@@ -1,12 +1,9 @@
 -- `first_codes::lower` meets its contract: every smaller code passed that is worth trying is dead.
 use native.Mathlib.Omega.{arith}
 use Rattle.solve.proofs.Branching.{code_decided, tried_dead, tried_not}
-use Rattle.first_codes.proofs.Lowering.{lowest_zero, lowest_dead, lowest_found, lowest_kept}
+use Rattle.first_codes.proofs.Lowering.{lowest_dead, lowest_found, lowest_kept}
 use Rattle.first_codes.proofs.lower.Goals as goal
 use Rattle.first_codes.proofs.lower.Goals.{then-worth+else-r, else-worth}
-
-pub returns-then-model-term-eq0 : goal.returns-then-model-term-eq0
-returns-then-model-term-eq0 c = lowest_zero _ _ _ _ _ c.if-model-term-eq0.true c.requires.consistent c.requires.extends
 
 pub returns-then-n : goal.returns-then-n
 returns-then-n c = lowest_dead _ _ _ _ _ (c.plan-n.ensures.dead c.if-n.true) c.requires.consistent c.requires.extends

@@ -1,9 +1,6 @@
 -- `solve::descend` meets its contract.
-use Prim.Native.Nat.{ℕ, ◌<◌}
-use mathlib.Core.Path.{sym, subst}
-use mathlib.Core.List.{List}
 use native.Mathlib.Omega.{arith}
-use Rattle.logic.proofs.Decided.{openings, decide_fewer}
+use Rattle.logic.proofs.Decided.{decide_fewer}
 use Rattle.solve.proofs.Branching.{code_decided, fit_mask, knowing_struck, knowing_decided, tried_dead, tried_not, branches_dead, solved_none, solved_found, solved_less}
 use Rattle.solve.proofs.+descend.Goals as goal
 use Rattle.solve.proofs.+descend.Goals.{then-worth+else-r, else-worth}

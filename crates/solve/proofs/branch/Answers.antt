@@ -1,7 +1,5 @@
 -- `solve::branch` meets its contract.
-use Prim.Native.Nat.{◌≤◌}
 use mathlib.Core.Path.{refl, ap, ◌∙◌}
-use native.Mathlib.Omega.{arith}
 use Rattle.prelude.specs.Lists.{at}
 use Rattle.solve.proofs.Branching.{branch_planned}
 use Rattle.solve.proofs.branch.Goals as goal

@@ -1,6 +1,6 @@
 -- `solve::codes_in_use` meets its contract: the codes of the terms passed are flagged.
 use Prim.Native.Nat.{ℕ, ◌+◌}
-use mathlib.Core.Path.{refl, sym, subst}
+use mathlib.Core.Path.{sym, subst}
 use mathlib.Core.List.{List}
 use native.Mathlib.Omega.{arith}
 use Rattle.prelude.specs.Lists.{at}
@@ -19,6 +19,3 @@ loop-j-preserved c =
         | else-p-j w ↦ subst keep (sym w.flags-is) (flagged_other _ _ _ _ _ f w.if-p-j.false)
       ],
     )
-
-pub returns : goal.returns
-returns c = λ j h. let l = c.loop-j-test.false in c.loop-j.invariant.1.all j (omega arith)

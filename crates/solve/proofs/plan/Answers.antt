@@ -13,6 +13,3 @@ returns-then-o c = dead_planned _ _ _ _ _ _ _ _ _ c.leaf.ensures.0 (c.propagate-
 
 pub branch-p-requires-clause-never_struck : goal.branch-p-requires-clause-never_struck
 branch-p-requires-clause-never_struck c = knowing_struck _ _ _ _ _ _ c.propagate-o.ensures.knowing
-
-pub returns : goal.returns
-returns c = c.branch-p.ensures.planned

@@ -3,6 +3,3 @@ use Rattle.solve.proofs.solve.Goals as goal
 
 pub descend-requires-clause-knowing : goal.descend-requires-clause-knowing
 descend-requires-clause-knowing c = λ a k x. c.begin-k.ensures _ a k
-
-pub returns : goal.returns
-returns c = c.descend.ensures
