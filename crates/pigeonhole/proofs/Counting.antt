@@ -156,6 +156,9 @@ pairs_counted n symbol arg0 arg1 l w list firsts seconds k x y few of first seco
           };
     }
 
+pub settled_counted : (n : ℕ) (symbol arg0 arg1 l w list : List ℕ) (k r : ℕ) → Means (λ c. SmallCodes c × (Labels l c × Masks w c)) (Counted list k r) → Means (LawfulGrouped n symbol arg0 arg1 l w) (Counted list k r)
+settled_counted n symbol arg0 arg1 l w list k r p = record { means = λ c s. p.means c (s.lawful.small, (s.labels, s.masks)) }
+
 -- a crowd has one symbol, and no codes are known of one with more terms than what counts them
 pub crowd_symbol : {n : ℕ} {symbol l w m : List ℕ} {f i : ℕ} {chosen : List ℕ} {k : ℕ} → Gathered n symbol l w m f i chosen k → OneSymbol n symbol chosen k
 crowd_symbol g = record { terms = g.terms; symbols = λ a b ha hb. g.symbols a ha ∙ sym (g.symbols b hb) }

@@ -1,5 +1,5 @@
-// What several crates use: the numbers of the format, a byte as a number, the lesser of two numbers, each number at its own place, and the tests
-// and lists of numbers that definitions are made of, with their laws (specs/, proofs/).
+// What several crates use: the numbers of the format, a byte as a number, the lesser of two numbers, each number at its own place, bytes copied and
+// searched, and the tests and lists of numbers that definitions are made of, with their laws (specs/, proofs/).
 #![tactic(auto)]
 
 ghost use Rattle.std.specs.Prelude.{◌≡◌, ℕ, ◌<◌, ◌≤◌, ◌+◌, ◌++◌, min, length, drop};

@@ -14,7 +14,7 @@ use Rattle.answer.specs.Answer.{Entry, answer, sum, structure_of}
 use Rattle.answer.specs.Demand.{Answers, Demand}
 use Rattle.answer.proofs.Lists.{found_or_none}
 use Rattle.answer.proofs.Demand.{accepted_demand}
-use Rattle.sizes.specs.Sizing.{sized, answering, sizing, sizes_after}
+use Rattle.sizes.specs.Sizing.{answering, sizing, sizes_after}
 use Rattle.sizes.specs.Promise.{FirstSizes, sizes_written, Promised}
 use Rattle.sizes.specs.declared.Sizing.TheVariants.{Sized, Refused}
 use Rattle.sizes.proofs.Outcomes.{Exit, exit, outcome_long}

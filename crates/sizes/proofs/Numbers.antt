@@ -7,7 +7,6 @@ use mathlib.Core.Logic.{◌⊎◌, inl, inr}
 use mathlib.Core.List.{List}
 use mathlib.Core.Option.{Option, none, some}
 use lib.ListN.{length}
-use Rattle.logic.specs.Sheet.{Sheet}
 use Rattle.layout.specs.Layout.{Reading, accepted, refused, reading, InSheet}
 use Rattle.layout.proofs.Answers.{refused_number}
 use Rattle.answer.specs.Answer.{Entry, answer, sum}
