@@ -53,7 +53,10 @@ module _ (P : Problem) (sizes : ℕ → ℕ) (l : List ℕ) (term size mask fres
   pub lowest_kept : (codes : List ℕ) → v ≡ at codes term → Consistent P sizes (at codes) → Extends P (at l) (at codes) → LeastAt P sizes (at l) (at codes) term
   lowest_kept codes e con ext = record { consistent = con; extends = ext; least = λ c k x. let y = tried_least c k x in omega arith }
 
--- where the decisions are dead there is no model
+-- a model whose code is 0 is the lowest, and where the decisions are dead there is no model
+pub lowest_zero : (P : Problem) (sizes q c : ℕ → ℕ) (term : ℕ) → c term ≡ 0 → Consistent P sizes c → Extends P q c → LeastAt P sizes q c term
+lowest_zero P sizes q c term e con ext = record { consistent = con; extends = ext; least = λ d k x. omega arith }
+
 pub lowest_dead : (P : Problem) (sizes q c : ℕ → ℕ) (term : ℕ) → Dead P sizes q → Consistent P sizes c → Extends P q c → LeastAt P sizes q c term
 lowest_dead P sizes q c term dead con ext = absurd (dead c con ext)
 
@@ -81,6 +84,12 @@ module _ (P : Problem) (sizes : ℕ → ℕ) (model decided : List ℕ) (n : ℕ
         | yes l ↦ sym (same j l)
         | no l ↦ absurd (d (k.pending j (omega arith) (omega arith)))
       ]
+
+  pub lowered_extends : Extends P (at decided) (at model)
+  lowered_extends = agrees_extends (at model) k.same
+
+  pub lowered_pending : at decided n ≡ undecided
+  lowered_pending = k.pending n (omega arith) (omega arith)
 
   module _ (w : WellSorted P) (small : (s : ℕ) → s < P.sorts → sizes s ≤ 16) (better next : List ℕ) (v : ℕ) (low : LeastAt P sizes (at decided) (at better) n) (ev : v ≡ at better n) (en : next ≡ set decided n v) where
     not_undecided : (j : ℕ) → j < n → at decided j ≡ undecided → ⊥
