@@ -1,4 +1,4 @@
--- Interface. Fills play no part in which answer a sheet has, and give only some unforced cells another code. Proved for every sheet: `Passes-over`
+-- Interface. Fills play no part in which answer a sheet has, and give only some unforced cells another code. Proved for every sheet: `passes_over`
 -- of proofs/Fills.antt.
 use Rattle.std.specs.Prelude.{ℕ, ◌<◌, ◌≡◌, List, map, length}
 use Rattle.std.proofs.Math.Option.{some}

@@ -17,7 +17,7 @@ const TRAIL: usize = 18;
 
 // What walk is asked: the sort, the starting code, how many events there are, where they start in the trail, how many bytes of it are lent, and what stands
 // in these.
-#[derive(Drop)]
+#[derive(Clone, Copy)]
 struct Call {
     sort: usize,
     code: usize,

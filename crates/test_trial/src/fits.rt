@@ -28,14 +28,14 @@ const TABLES: usize = 1024;
 const REFUSED: usize = 10000;
 
 // What fitted is to give, as a number, and how many bytes it is to write.
-#[derive(Drop)]
+#[derive(Clone, Copy)]
 struct Want {
     answer: usize,
     length: usize,
 }
 
 // How many bytes fitted is lent, and what stands in them.
-#[derive(Drop)]
+#[derive(Clone, Copy)]
 struct Lent {
     length: usize,
     fill: u8,

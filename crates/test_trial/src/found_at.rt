@@ -21,7 +21,7 @@ use test_sheets::plan::{MOST_SORTS, PLAN, SORTS, count};
 const SIZES: usize = MOST_SORTS + 1;
 
 // The list of sizes that find_at is given: the first so many bytes.
-#[derive(Drop)]
+#[derive(Clone, Copy)]
 struct Given {
     size: [u8; SIZES],
     many: usize,

@@ -14,7 +14,7 @@ pub(crate) const CODES: usize = 32;
 pub(crate) const TABLES: usize = 2048;
 
 // What a call is to give, as a number, and how many bytes of each buffer it is to write.
-#[derive(Drop)]
+#[derive(Clone, Copy)]
 pub(crate) struct Want {
     pub answer: usize,
     codes: usize,
@@ -22,7 +22,7 @@ pub(crate) struct Want {
 }
 
 // How many bytes of each buffer are lent, and what stands in them.
-#[derive(Drop)]
+#[derive(Clone, Copy)]
 pub(crate) struct Lent {
     pub codes: usize,
     pub tables: usize,

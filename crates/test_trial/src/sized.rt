@@ -11,7 +11,7 @@ use test_sheets::plan::{PLAN, SORTS, count};
 const SIZES: usize = 8;
 
 // What sizes is to give, as a number, and how many bytes it is to write.
-#[derive(Drop)]
+#[derive(Clone, Copy)]
 struct Want {
     answer: usize,
     length: usize,

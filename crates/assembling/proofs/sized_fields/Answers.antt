@@ -17,15 +17,13 @@ loop-s-init c = (omega arith, c.nothing-q.ensures)
 pub with_sort-q-requires : goal.with_sort-q-requires
 with_sort-q-requires c =
     let l = c.loop-s in
-    let m = c in
-    omega (arith, (contents l.q (sized l.s (at m.args.sizes)) l.invariant.1).sorts, length_singles {A = Bound} l.s (λ s. record { floor = at m.args.sizes s; ceiling = at m.args.sizes s }))
+    omega (arith, (contents l.q (sized l.s (at c.args.sizes)) l.invariant.1).sorts, length_singles {A = Bound} l.s (λ s. record { floor = at c.args.sizes s; ceiling = at c.args.sizes s }))
 
 pub loop-s-preserved : goal.loop-s-preserved
 loop-s-preserved c =
-    let l = c.loop-s in
-    let m = c in (
+    let l = c.loop-s in (
       omega arith,
-      c.with_sort-q.ensures (sized l.s (at m.args.sizes)) l.invariant.1 ∙ ap (λ (n : ℕ). packed (sized n (at m.args.sizes))) (sym (add-one l.s)),
+      c.with_sort-q.ensures (sized l.s (at c.args.sizes)) l.invariant.1 ∙ ap (λ (n : ℕ). packed (sized n (at c.args.sizes))) (sym (add-one l.s)),
     )
 
 pub returns : goal.returns

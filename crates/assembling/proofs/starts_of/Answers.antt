@@ -14,14 +14,13 @@ loop-s-init c = (omega arith, refl, refl, omega arith, λ i h. absurd (omega ari
 pub loop-s-preserved : goal.loop-s-preserved
 loop-s-preserved c =
     let l = c.loop-s in
-    let m = c in
-    let sum : l.sum + c.wide-sum.result ≡ sum_to (l.s + 1) (at m.args.sizes) =
-    omega (arith, l.invariant, c.wide-sum.ensures.0, ap (λ (k : ℕ). sum_to k (at m.args.sizes)) (add-one l.s)) in (
+    let sum : l.sum + c.wide-sum.result ≡ sum_to (l.s + 1) (at c.args.sizes) =
+    omega (arith, l.invariant, c.wide-sum.ensures.0, ap (λ (k : ℕ). sum_to k (at c.args.sizes)) (add-one l.s)) in (
       omega arith,
       simp length-set l.invariant.1,
       sum,
-      omega (arith, sum, m.requires, sum_to_grows (l.s + 1) m.args.n (at m.args.sizes) (omega arith)),
-      filled_more (λ i. sum_to i (at m.args.sizes)) l.starts l.s l.sum (omega (arith, l.invariant)) l.invariant.2 l.invariant.4,
+      omega (arith, sum, c.requires, sum_to_grows (l.s + 1) c.args.n (at c.args.sizes) (omega arith)),
+      filled_more (λ i. sum_to i (at c.args.sizes)) l.starts l.s l.sum (omega (arith, l.invariant)) l.invariant.2 l.invariant.4,
     )
 
 pub returns : goal.returns

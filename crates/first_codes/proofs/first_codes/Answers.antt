@@ -6,14 +6,11 @@ use lib.ListN.{replicate, get_or-replicate}
 use borrow.Author.Tests.{not-true, not-false}
 use Rattle.prelude.specs.Limits.{undecided}
 use Rattle.prelude.specs.Lists.{at}
-use Rattle.first_codes.proofs.Lowering.{lowered_none, lowered_more, lowered_all, lowered_extends, lowered_pending, nothing_decided}
+use Rattle.first_codes.proofs.Lowering.{lowered_none, lowered_more, lowered_all, nothing_decided}
 use Rattle.first_codes.proofs.first_codes.Goals as goal
 
 all_undecided : (j : ℕ) → j < 256 → at (replicate {A = ℕ} 256 255) j ≡ undecided
 all_undecided j h = get_or-replicate {A = ℕ} 256 j 255 0 h
-
-pub solve-s-requires : goal.solve-s-requires
-solve-s-requires c = c.requires
 
 pub returns-then-not-s : goal.returns-then-not-s
 returns-then-not-s c =
@@ -22,36 +19,6 @@ returns-then-not-s c =
 pub loop-i-init : goal.loop-i-init
 loop-i-init c =
     (omega arith, lowered_none _ _ _ _ refl all_undecided (c.solve-s.ensures.consistent (not-false c.solve-s.result.found c.if-not-s.false)))
-
-pub lower-better-requires : goal.lower-better-requires
-lower-better-requires c =
-    let k = c.loop-i.invariant.1 in
-    record {
-      searchable = c.requires.searchable;
-      small_sizes = c.requires.small_sizes;
-      term_lt_terms = (c.loop-i-test.true, lowered_pending _ _ _ _ _ c.requires.searchable.terms c.loop-i-test.true k);
-      consistent = k.consistent;
-      extends = lowered_extends _ _ _ _ _ c.requires.searchable.terms c.loop-i-test.true k;
-    }
-
-pub bounds-model-i : goal.bounds-model-i
-bounds-model-i c =
-    let h = c.loop-i-test.true in
-    omega (arith, c.requires.searchable.terms)
-
-pub decide-next-requires : goal.decide-next-requires
-decide-next-requires c =
-    let h = c.loop-i-test.true in
-    let w = c.wide.ensures.1 in
-    (omega (arith, c.requires.searchable.terms), omega arith)
-
-pub overflow_add-i : goal.overflow_add-i
-overflow_add-i c =
-    let h = c.loop-i-test.true in
-    omega (arith, c.requires.searchable.terms)
-
-pub loop-i-smaller : goal.loop-i-smaller
-loop-i-smaller c = let h = c.loop-i-test.true in omega arith
 
 pub loop-i-preserved : goal.loop-i-preserved
 loop-i-preserved c =

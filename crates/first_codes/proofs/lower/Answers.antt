@@ -1,65 +1,18 @@
 -- `first_codes::lower` meets its contract: every smaller code passed that is worth trying is dead.
 use native.Mathlib.Omega.{arith}
 use Rattle.solve.proofs.Branching.{code_decided, tried_dead, tried_not}
-use Rattle.first_codes.proofs.Lowering.{lowest_zero, lowest_dead, lowest_found, lowest_kept}
+use Rattle.first_codes.proofs.Lowering.{lowest_dead, lowest_found, lowest_kept}
 use Rattle.first_codes.proofs.lower.Goals as goal
 use Rattle.first_codes.proofs.lower.Goals.{then-worth+else-r, else-worth}
 
-pub bounds-model-term : goal.bounds-model-term
-bounds-model-term c = omega (arith, c.requires.searchable.terms, c.requires.term_lt_terms.0)
-
-pub returns-then-model-term-eq0 : goal.returns-then-model-term-eq0
-returns-then-model-term-eq0 c = lowest_zero _ _ _ _ _ c.if-model-term-eq0.true c.requires.consistent c.requires.extends
-
-pub plan-n-requires : goal.plan-n-requires
-plan-n-requires c =
-    record { searchable = c.requires.searchable; small_sizes = c.requires.small_sizes; term_lt_terms = c.requires.term_lt_terms }
-
 pub returns-then-n : goal.returns-then-n
 returns-then-n c = lowest_dead _ _ _ _ _ (c.plan-n.ensures.dead c.if-n.true) c.requires.consistent c.requires.extends
-
-pub renamed-best-requires : goal.renamed-best-requires
-renamed-best-requires c =
-    record {
-      searchable = c.requires.searchable;
-      small_sizes = c.requires.small_sizes;
-      term_lt_terms = c.requires.term_lt_terms.0;
-      consistent = c.requires.consistent;
-      extends = c.requires.extends;
-    }
-
-pub bounds-best-term : goal.bounds-best-term
-bounds-best-term c = omega (arith, c.requires.searchable.terms, c.requires.term_lt_terms.0)
-
-pub loop-v-init : goal.loop-v-init
-loop-v-init c = (omega arith, λ u h. omega arith)
-
-pub worth-requires : goal.worth-requires
-worth-requires c = (c.plan-n.ensures.branches c.if-n.false).small
-
-pub decide-next-requires : goal.decide-next-requires
-decide-next-requires c =
-    let h = c.loop-v-test.true in
-    let w = c.wide-high.ensures.1 in
-    (omega (arith, c.requires.searchable.terms, c.requires.term_lt_terms.0), omega arith)
-
-pub solve-r-requires : goal.solve-r-requires
-solve-r-requires c = record { searchable = c.requires.searchable; small_sizes = c.requires.small_sizes }
 
 pub returns-then-r : goal.returns-then-r
 returns-then-r c =
     let b = c.plan-n.ensures.branches c.if-n.false in
     let below = (c.worth.ensures.yes c.if-worth.true).below in
     lowest_found _ _ c.args.decided c.args.term _ _ _ _ c.loop-v.v b c.loop-v.invariant.1 _ c.solve-r.result.codes _ (omega (arith, c.requires.searchable.terms, c.requires.term_lt_terms.0)) (code_decided _ below b.small) c.decide-next.ensures c.if-r.true c.solve-r.ensures
-
-pub overflow_add-v : goal.overflow_add-v
-overflow_add-v c =
-    let h = c.loop-v-test.true in
-    let w = c.wide-high.ensures.1 in
-    omega arith
-
-pub loop-v-smaller : goal.loop-v-smaller
-loop-v-smaller c = let h = c.loop-v-test.true in omega arith
 
 pub loop-v-preserved : goal.loop-v-preserved
 loop-v-preserved c =

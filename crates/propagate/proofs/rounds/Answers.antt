@@ -1,23 +1,8 @@
 -- `propagate::rounds` meets its contract.
 use borrow.Author.Tests.{ltb-true}
-use Rattle.knowledge.proofs.Keeping.{stay, chain}
+use Rattle.knowledge.proofs.Keeping.{chain}
 use native.Mathlib.Omega.{arith}
 use Rattle.propagate.proofs.rounds.Goals as goal
 
-pub loop-news-init : goal.loop-news-init
-loop-news-init c = (omega arith, omega arith, stay)
-
-pub overflow_add-done : goal.overflow_add-done
-overflow_add-done c = omega (arith, ltb-true)
-
-pub loop-news-smaller : goal.loop-news-smaller
-loop-news-smaller c = omega (arith, ltb-true)
-
 pub loop-news-preserved : goal.loop-news-preserved
 loop-news-preserved c = (omega arith, omega (arith, ltb-true), chain c.loop-news.invariant.2 c.round-news.ensures)
-
-pub returns-else-done-lt-ROUNDS : goal.returns-else-done-lt-ROUNDS
-returns-else-done-lt-ROUNDS c = c.loop-news.invariant.2
-
-pub returns-after-loop-news : goal.returns-after-loop-news
-returns-after-loop-news c = c.loop-news.invariant.2

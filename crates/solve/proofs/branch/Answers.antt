@@ -1,20 +1,8 @@
 -- `solve::branch` meets its contract.
-use Prim.Native.Nat.{◌≤◌}
 use mathlib.Core.Path.{refl, ap, ◌∙◌}
-use native.Mathlib.Omega.{arith}
 use Rattle.prelude.specs.Lists.{at}
 use Rattle.solve.proofs.Branching.{branch_planned}
 use Rattle.solve.proofs.branch.Goals as goal
-
-pub bounds-sizes-s : goal.bounds-sizes-s
-bounds-sizes-s c =
-    omega (arith, c.requires.searchable.sorts, c.requires.searchable.sorted.sort c.args.term c.requires.term_lt_terms.0, c.wide-s.ensures.0)
-
-pub fresh-first-requires : goal.fresh-first-requires
-fresh-first-requires c =
-    let e = c.wide-s.ensures.0 in
-    let l : at c.args.sizes c.wide-s.result ≤ 16 = rw e (c.requires.small_sizes _ (c.requires.searchable.sorted.sort c.args.term c.requires.term_lt_terms.0)) in
-    omega (arith, c.wide-size.ensures.0)
 
 pub returns : goal.returns
 returns c =

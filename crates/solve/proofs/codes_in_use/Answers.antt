@@ -1,18 +1,12 @@
 -- `solve::codes_in_use` meets its contract: the codes of the terms passed are flagged.
 use Prim.Native.Nat.{ℕ, ◌+◌}
-use mathlib.Core.Path.{refl, sym, subst}
+use mathlib.Core.Path.{sym, subst}
 use mathlib.Core.List.{List}
 use native.Mathlib.Omega.{arith}
 use Rattle.prelude.specs.Lists.{at}
 use Rattle.solve.proofs.Branching.{Flagged, flagged_more, flagged_high, flagged_other}
 use Rattle.solve.proofs.codes_in_use.Goals as goal
 use Rattle.solve.proofs.codes_in_use.Goals.{then-p-j+then-v-lt-MOST_CODES, then-p-j+else-v-lt-MOST_CODES, else-p-j}
-
-pub loop-j-init : goal.loop-j-init
-loop-j-init c = (omega arith, record { length = refl; all = λ k h. omega arith })
-
-pub bounds-flags-v : goal.bounds-flags-v
-bounds-flags-v c = c.if-v-lt-MOST_CODES.true
 
 pub loop-j-preserved : goal.loop-j-preserved
 loop-j-preserved c =
@@ -25,6 +19,3 @@ loop-j-preserved c =
         | else-p-j w ↦ subst keep (sym w.flags-is) (flagged_other _ _ _ _ _ f w.if-p-j.false)
       ],
     )
-
-pub returns : goal.returns
-returns c = λ j h. let l = c.loop-j-test.false in c.loop-j.invariant.1.all j (omega arith)

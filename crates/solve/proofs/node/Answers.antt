@@ -5,41 +5,15 @@ use Rattle.solve.proofs.node.Goals as goal
 pub returns-then-dead : goal.returns-then-dead
 returns-then-dead c = dead_node _ _ _ _ _ _ _ _ _ _ _ c.leaf.ensures.0 c.leaf.ensures.1 (c.requires.dead c.if-dead.true)
 
-pub branch-p-requires : goal.branch-p-requires
-branch-p-requires c =
-    record {
-      searchable = c.requires.searchable;
-      small_sizes = c.requires.small_sizes;
-      never_struck = c.requires.never_struck;
-      term_lt_terms = (c.if-term-p.true, c.if-decided-term.true);
-    }
-
 pub returns-then-decided-term : goal.returns-then-decided-term
 returns-then-decided-term c =
     let b = c.branch-p.ensures in
     planned_node _ _ _ _ _ _ _ _ _ _ _ _ b.dead_value.0 b.dead_value.1 b.dead_value.2 b.planned
 
-pub branch-p-requires-then-left-p : goal.branch-p-requires-then-left-p
-branch-p-requires-then-left-p c =
-    record {
-      searchable = c.requires.searchable;
-      small_sizes = c.requires.small_sizes;
-      never_struck = c.requires.never_struck;
-      term_lt_terms = (c.if-left-p.true, c.settle-s.ensures.pending c.if-left-p.true);
-    }
-
 pub returns-then-left-p : goal.returns-then-left-p
 returns-then-left-p c =
     let b = c.branch-p-then-left-p.ensures in
     planned_node _ _ _ _ _ _ _ _ _ _ _ _ b.dead_value.0 b.dead_value.1 b.dead_value.2 b.planned
-
-pub consistent-requires : goal.consistent-requires
-consistent-requires c =
-    record {
-      searchable = c.requires.searchable;
-      small_sizes = c.requires.small_sizes;
-      padded = (c.settle-s.ensures.read c.if-left-p.false).rest;
-    }
 
 pub returns-then-consistent : goal.returns-then-consistent
 returns-then-consistent c =

@@ -2,24 +2,14 @@
 use Rattle.solve.proofs.Branching.{fit_mask, knowing_struck, dead_planned}
 use Rattle.solve.proofs.plan.Goals as goal
 
-pub propagate-o-requires : goal.propagate-o-requires
-propagate-o-requires c =
-    record {
-      fit_mask = fit_mask _ _ c.requires.searchable.sorted c.requires.small_sizes;
-      knowing = λ a k x. c.begin-k.ensures _ a k;
-    }
+pub propagate-o-requires-clause-fit_mask : goal.propagate-o-requires-clause-fit_mask
+propagate-o-requires-clause-fit_mask c = fit_mask _ _ c.requires.searchable.sorted c.requires.small_sizes
+
+pub propagate-o-requires-clause-knowing : goal.propagate-o-requires-clause-knowing
+propagate-o-requires-clause-knowing c = λ a k x. c.begin-k.ensures _ a k
 
 pub returns-then-o : goal.returns-then-o
 returns-then-o c = dead_planned _ _ _ _ _ _ _ _ _ c.leaf.ensures.0 (c.propagate-o.ensures.dead c.if-o.true)
 
-pub branch-p-requires : goal.branch-p-requires
-branch-p-requires c =
-    record {
-      searchable = c.requires.searchable;
-      small_sizes = c.requires.small_sizes;
-      never_struck = knowing_struck _ _ _ _ _ _ c.propagate-o.ensures.knowing;
-      term_lt_terms = c.requires.term_lt_terms;
-    }
-
-pub returns : goal.returns
-returns c = c.branch-p.ensures.planned
+pub branch-p-requires-clause-never_struck : goal.branch-p-requires-clause-never_struck
+branch-p-requires-clause-never_struck c = knowing_struck _ _ _ _ _ _ c.propagate-o.ensures.knowing

@@ -16,12 +16,6 @@ loop-i-init c = (omega arith, read_none _ _ _)
 pub returns-then-v-ge-MOST_CODES : goal.returns-then-v-ge-MOST_CODES
 returns-then-v-ge-MOST_CODES c = record { pending = λ h. c.if-d.true; read = λ h. let l = c.loop-i-test.true in absurd (omega arith) }
 
-pub bounds-codes-i : goal.bounds-codes-i
-bounds-codes-i c = omega (arith, c.requires.terms)
-
-pub bounds-codes-i-else-d : goal.bounds-codes-i-else-d
-bounds-codes-i-else-d c = omega (arith, c.requires.terms)
-
 pub loop-i-preserved : goal.loop-i-preserved
 loop-i-preserved c =
     let r = c.loop-i.invariant.1 in

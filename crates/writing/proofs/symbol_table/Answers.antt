@@ -1,4 +1,4 @@
--- `writing::symbol_table` meets its contract: the terms passed have been put into the table of unforced codes, the table at the loop's start.
+-- `writing::symbol_table` meets its contract: the terms passed have been put into the table of unforced codes that the loop begins with.
 use Prim.Native.Nat.{◌-◌}
 use mathlib.Core.Path.{refl, sym, ap, ◌∙◌}
 use native.Mathlib.Nat.{le_refl}
@@ -12,48 +12,39 @@ use Rattle.writing.proofs.symbol_table.Goals as goal
 
 pub loop-i-init : goal.loop-i-init
 loop-i-init c =
-    let m = c in
-    (le_refl _, from_none (view m.args.p) (at m.args.codes) m.args.symbol 16 16 c.unforced_table-t.result)
+    (le_refl _, from_none (view c.args.p) (at c.args.codes) c.args.symbol 16 16 c.unforced_table-t.result)
 
 pub with_cell-u-requires : goal.with_cell-u-requires
 with_cell-u-requires c =
-    let m = c in
-    (omega (arith, c.wide-then-wide-symbol.ensures.0, m.requires.terms_le_most_terms.2 c.wide-a.result), omega (arith, c.wide-then-wide-symbol-2.ensures.0, m.requires.terms_le_most_terms.2 c.wide-b.result))
+    (omega (arith, c.wide-then-wide-symbol.ensures.0, c.requires.terms_le_most_terms.2 c.wide-a.result), omega (arith, c.wide-then-wide-symbol-2.ensures.0, c.requires.terms_le_most_terms.2 c.wide-b.result))
 
 pub loop-i-preserved-then-wide-symbol : goal.loop-i-preserved-then-wide-symbol
 loop-i-preserved-then-wide-symbol c =
-    let tested = c in
-    let l = tested in
-    let m = l in
     let arg0 = c.wide-a in
     let arg1 = c.wide-b in
     let row = c.wide-then-wide-symbol in
     let col = c.wide-then-wide-symbol-2 in (
       omega arith,
-      from_put (view m.args.p) (at m.args.codes) m.args.symbol (cell l.unforced_table-t.result) 16 16 l.loop-i.i l.loop-i.t tested.loop-i-test.true l.loop-i.invariant.0 l.loop-i.invariant.1
-          c.with_cell-u.result row.result col.result (at m.args.codes (l.loop-i.i - 1))
-          (sym tested.wide.ensures.0 ∙ tested.if-wide-symbol.true)
-          (row.ensures.0 ∙ ap (at m.args.codes) arg0.ensures.0)
-          (col.ensures.0 ∙ ap (at m.args.codes) arg1.ensures.0)
+      from_put (view c.args.p) (at c.args.codes) c.args.symbol (cell c.unforced_table-t.result) 16 16 c.loop-i.i c.loop-i.t c.loop-i-test.true c.loop-i.invariant.0 c.loop-i.invariant.1
+          c.with_cell-u.result row.result col.result (at c.args.codes (c.loop-i.i - 1))
+          (sym c.wide.ensures.0 ∙ c.if-wide-symbol.true)
+          (row.ensures.0 ∙ ap (at c.args.codes) arg0.ensures.0)
+          (col.ensures.0 ∙ ap (at c.args.codes) arg1.ensures.0)
           refl
           c.with_cell-u.ensures,
     )
 
 pub loop-i-preserved : goal.loop-i-preserved
-loop-i-preserved c =
-    let l = c in
-    let m = l in (
-      omega arith,
-      from_skip (view m.args.p) (at m.args.codes) m.args.symbol (cell l.unforced_table-t.result) 16 16 l.loop-i.i l.loop-i.t c.loop-i-test.true l.loop-i.invariant.0 l.loop-i.invariant.1
-          (λ e. c.if-wide-symbol.false (c.wide.ensures.0 ∙ e)),
-    )
+loop-i-preserved c = (
+  omega arith,
+  from_skip (view c.args.p) (at c.args.codes) c.args.symbol (cell c.unforced_table-t.result) 16 16 c.loop-i.i c.loop-i.t c.loop-i-test.true c.loop-i.invariant.0 c.loop-i.invariant.1
+      (λ e. c.if-wide-symbol.false (c.wide.ensures.0 ∙ e)),
+)
 
 pub returns : goal.returns
 returns c sh size k h =
-    let l = c in
-    let m = l in
-    let P = view m.args.p in
-    let start = l.unforced_table-t in
-    filled_table P (at m.args.codes) m.args.symbol P.terms (cell start.result) (unforced_at sh size (at m.args.codes) m.args.symbol) m.args.rows m.args.columns l.loop-i.t
-    (omega arith) (omega arith) (start.ensures sh size (at m.args.codes) k h (l.fill_code-fill.ensures sh k))
-    (from_all P (at m.args.codes) m.args.symbol (cell start.result) 16 16 l.loop-i.i l.loop-i.t (omega arith) l.loop-i.invariant.1)
+    let P = view c.args.p in
+    let start = c.unforced_table-t in
+    filled_table P (at c.args.codes) c.args.symbol P.terms (cell start.result) (unforced_at sh size (at c.args.codes) c.args.symbol) c.args.rows c.args.columns c.loop-i.t
+    (omega arith) (omega arith) (start.ensures sh size (at c.args.codes) k h (c.fill_code-fill.ensures sh k))
+    (from_all P (at c.args.codes) c.args.symbol (cell start.result) 16 16 c.loop-i.i c.loop-i.t (omega arith) c.loop-i.invariant.1)

@@ -1,4 +1,4 @@
--- `writing::symbol_table` meets its contract: the terms passed have been put into the table of unforced codes, the table at the loop's start.
+-- `writing::symbol_table` meets its contract: the terms passed have been put into the table of unforced codes that the loop begins with.
 use Prim.Native.Nat.{◌≤◌}
 use Rattle.prelude.specs.Lists.{at}
 use Rattle.layout.specs.Packed.{view}

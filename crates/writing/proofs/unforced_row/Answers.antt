@@ -11,12 +11,11 @@ loop-col-init c = (omega arith, refl, λ sh size d k h e j l. absurd (omega arit
 
 pub loop-col-preserved : goal.loop-col-preserved
 loop-col-preserved c =
-    let m = c in
     let l = c.loop-col in (
       omega arith,
       simp length-set l.invariant.1,
       λ sh size d k h e.
-          filled_more (unforced_at sh size d m.args.symbol m.args.row) l.cells l.col c.unforced.result (omega arith)
+          filled_more (unforced_at sh size d c.args.symbol c.args.row) l.cells l.col c.unforced.result (omega arith)
           (c.unforced.ensures sh size d k h e) (l.invariant.2 sh size d k h e),
     )
 

@@ -11,12 +11,11 @@ loop-row-init c = (omega arith, refl, λ sh size d k h e i j l. absurd (omega ar
 
 pub loop-row-preserved : goal.loop-row-preserved
 loop-row-preserved c =
-    let m = c in
     let l = c.loop-row in (
       omega arith,
       simp length-set l.invariant.1,
       λ sh size d k h e.
-          rows_more (unforced_at sh size d m.args.symbol) l.t l.row m.args.columns c.unforced_row-cells.result (omega arith)
+          rows_more (unforced_at sh size d c.args.symbol) l.t l.row c.args.columns c.unforced_row-cells.result (omega arith)
           (c.unforced_row-cells.ensures sh size d k h e) (l.invariant.2 sh size d k h e),
     )
 

@@ -10,5 +10,3 @@ invariant-loop-f l = TablesTo l.p (at l.sizes) (at l.codes) l.offsets l.initial.
 
 abbrev pub decreases-loop-f : goal.decreases-loop-f
 decreases-loop-f l = l.n - l.f
-
--- a turn of the loop: the parsed sheet, l.sizes, l.codes and l.offsets; that there is a symbol left; the rows and columns of its table, and its stretch

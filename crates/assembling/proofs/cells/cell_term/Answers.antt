@@ -13,11 +13,10 @@ returns-then-first c t st h =
 
 pub code_term-x-requires : goal.code_term-x-requires
 code_term-x-requires c =
-    let m = c in
-    let a = m.args in
-    let t = m.requires.0 in
-    let there = first_there a.p t a.f m.requires.1.1 c.if-first.false in
-    rw c.wide.ensures.0 (code_fits a.p t (at a.starts) m.requires.1.0 (at a.p.param0 a.f) a.row there (omega (arith, m.requires.1)))
+    let a = c.args in
+    let t = c.requires.0 in
+    let there = first_there a.p t a.f c.requires.1.1 c.if-first.false in
+    rw c.wide.ensures.0 (code_fits a.p t (at a.starts) c.requires.1.0 (at a.p.param0 a.f) a.row there (omega (arith, c.requires.1)))
 
 pub returns-then-second : goal.returns-then-second
 returns-then-second c t st h =
@@ -29,11 +28,10 @@ returns-then-second c t st h =
 
 pub code_term-y-requires : goal.code_term-y-requires
 code_term-y-requires c =
-    let m = c in
-    let a = m.args in
-    let t = m.requires.0 in
-    let there = second_there a.p t a.f m.requires.1.1 c.if-second.false in
-    rw c.wide-2.ensures.0 (code_fits a.p t (at a.starts) m.requires.1.0 (at a.p.param1 a.f) a.col there (omega (arith, m.requires.1)))
+    let a = c.args in
+    let t = c.requires.0 in
+    let there = second_there a.p t a.f c.requires.1.1 c.if-second.false in
+    rw c.wide-2.ensures.0 (code_fits a.p t (at a.starts) c.requires.1.0 (at a.p.param1 a.f) a.col there (omega (arith, c.requires.1)))
 
 pub returns : goal.returns
 returns c t st h =

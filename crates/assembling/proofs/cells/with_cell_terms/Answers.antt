@@ -21,14 +21,13 @@ loop-f-init c = (omega arith, refl, λ t sz st. terms_none c.args.q (table_terms
 pub with_table_terms-out-requires : goal.with_table_terms-out-requires
 with_table_terms-out-requires c =
     let l = c.loop-f in
-    let m = c in
-    let t = m.requires.sizes_of.0 in
-    let given = m.requires.sizes_of.1 in
+    let t = c.requires.sizes_of.0 in
+    let given = c.requires.sizes_of.1 in
     let there : l.f < length t.sheet.symbols = omega (arith, l.invariant.1, symbols_packed t.sheet _ t.packs) in
     let so_far = l.invariant.2 t given.0 given.1 in
-    let many = terms_count m.args.q (table_terms t.sheet t.structure) l.f l.out m.requires.building.0 so_far in
+    let many = terms_count c.args.q (table_terms t.sheet t.structure) l.f l.out c.requires.building.0 so_far in
     record {
-      building = (terms_building m.args.q (table_terms t.sheet t.structure) l.f l.out m.requires.building.0 so_far, omega (arith, l.invariant.1, many.1, m.requires.building), omega (arith, many.1, m.requires.building));
+      building = (terms_building c.args.q (table_terms t.sheet t.structure) l.f l.out c.requires.building.0 so_far, omega (arith, l.invariant.1, many.1, c.requires.building), omega (arith, many.1, c.requires.building));
       sizes_of = (
         t,
         (
@@ -40,7 +39,7 @@ with_table_terms-out-requires c =
             many.0,
             given.2,
             length_cells t.sheet t.structure l.f (cell_expression t.sheet t.structure),
-            sum_to_grows (suc l.f) m.args.p.symbols (λ g. cells t.structure.size (symbol_at t.sheet g).params) (omega (arith, l.invariant.1)),
+            sum_to_grows (suc l.f) c.args.p.symbols (λ g. cells t.structure.size (symbol_at t.sheet g).params) (omega (arith, l.invariant.1)),
           ),
         ),
       );
@@ -48,12 +47,11 @@ with_table_terms-out-requires c =
 
 pub loop-f-preserved : goal.loop-f-preserved
 loop-f-preserved c =
-    let l = c.loop-f in
-    let m = c in (
+    let l = c.loop-f in (
       omega arith,
       l.invariant.1,
       λ t sz st.
-          terms_next m.args.q (table_terms t.sheet t.structure) l.f l.out c.with_table_terms-out.result (l.invariant.2 t sz st)
+          terms_next c.args.q (table_terms t.sheet t.structure) l.f l.out c.with_table_terms-out.result (l.invariant.2 t sz st)
           (λ b. c.with_table_terms-out.ensures b t sz st (omega (arith, l.invariant.1, symbols_packed t.sheet _ t.packs))),
     )
 

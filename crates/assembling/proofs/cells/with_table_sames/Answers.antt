@@ -22,30 +22,27 @@ loop-k-init c =
 pub code_term-right-requires : goal.code_term-right-requires
 code_term-right-requires c =
     let l = c.loop-k in
-    let m = c in
-    (omega (arith, m.requires), rw c.wide.ensures.0 (m.requires.4 l.k (omega arith)))
+    (omega (arith, c.requires), rw c.wide.ensures.0 (c.requires.4 l.k (omega arith)))
 
 pub with_literal-out-requires : goal.with_literal-out-requires
 with_literal-out-requires c =
     let l = c.loop-k in
-    let m = c in
     omega (
       arith,
-      m.requires,
-      literals_count m.args.q (λ i. one m.args.first (at m.args.starts m.args.s) m.args.cells.now i ∷ []) l.k l.out m.requires.0 l.invariant.1,
-      length_singles l.k (one m.args.first (at m.args.starts m.args.s) m.args.cells.now),
+      c.requires,
+      literals_count c.args.q (λ i. one c.args.first (at c.args.starts c.args.s) c.args.cells.now i ∷ []) l.k l.out c.requires.0 l.invariant.1,
+      length_singles l.k (one c.args.first (at c.args.starts c.args.s) c.args.cells.now),
     )
 
 pub loop-k-preserved : goal.loop-k-preserved
 loop-k-preserved c =
-    let l = c.loop-k in
-    let m = c in (
+    let l = c.loop-k in (
       omega arith,
-      literals_next m.args.q (λ i. one m.args.first (at m.args.starts m.args.s) m.args.cells.now i ∷ []) l.k l.out c.with_literal-out.result l.invariant.1
+      literals_next c.args.q (λ i. one c.args.first (at c.args.starts c.args.s) c.args.cells.now i ∷ []) l.k l.out c.with_literal-out.result l.invariant.1
           (λ b.
           c.with_literal-out.ensures b.sheet true b.same refl
-          ∙ ap (λ (n : ℕ). packed (more_literals b.sheet (same (m.args.first + l.k) n ∷ [])))
-          (c.code_term-right.ensures ∙ ap (λ (n : ℕ). at m.args.starts m.args.s + n) c.wide.ensures.0)),
+          ∙ ap (λ (n : ℕ). packed (more_literals b.sheet (same (c.args.first + l.k) n ∷ [])))
+          (c.code_term-right.ensures ∙ ap (λ (n : ℕ). at c.args.starts c.args.s + n) c.wide.ensures.0)),
     )
 
 pub returns : goal.returns

@@ -18,21 +18,19 @@ loop-s-init c = (omega arith, symbols_none c.args.q (names c.args.sizes))
 
 pub with_symbols_of-out-requires : goal.with_symbols_of-out-requires
 with_symbols_of-out-requires c =
-    let m = c in
     let l = c.loop-s in
-    let many = symbols_count m.args.q (names m.args.sizes) l.s l.out m.requires.0 l.invariant.1 in (
-      symbols_building m.args.q (names m.args.sizes) l.s l.out m.requires.0 l.invariant.1,
-      many.1 ∙ m.requires.1,
+    let many = symbols_count c.args.q (names c.args.sizes) l.s l.out c.requires.0 l.invariant.1 in (
+      symbols_building c.args.q (names c.args.sizes) l.s l.out c.requires.0 l.invariant.1,
+      many.1 ∙ c.requires.1,
       omega arith,
-      omega (arith, many.0, m.requires, c.wide-size.ensures.0, length_nested l.s (at m.args.sizes) (λ s k. code_symbol s), sum_to_grows (suc l.s) m.args.n (at m.args.sizes) (omega arith)),
+      omega (arith, many.0, c.requires, c.wide-size.ensures.0, length_nested l.s (at c.args.sizes) (λ s k. code_symbol s), sum_to_grows (suc l.s) c.args.n (at c.args.sizes) (omega arith)),
     )
 
 pub loop-s-preserved : goal.loop-s-preserved
 loop-s-preserved c =
-    let m = c in
     let l = c.loop-s in (
       omega arith,
-      symbols_next m.args.q (names m.args.sizes) l.s l.out c.with_symbols_of-out.result l.invariant.1
+      symbols_next c.args.q (names c.args.sizes) l.s l.out c.with_symbols_of-out.result l.invariant.1
           (λ b.
           c.with_symbols_of-out.ensures b
           ∙ ap (λ (n : ℕ). packed (more_symbols b.sheet (collect n (λ k. code_symbol l.s ∷ [])))) c.wide-size.ensures.0),

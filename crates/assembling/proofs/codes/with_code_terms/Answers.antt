@@ -13,22 +13,20 @@ loop-c-init c = (omega arith, terms_none c.args.q (λ i. bare_term (c.args.first
 
 pub with_term-out-requires : goal.with_term-out-requires
 with_term-out-requires c =
-    let m = c in
     let l = c.loop-c in
-    let many = terms_count m.args.q (λ i. bare_term (m.args.first + i) ∷ []) l.c l.out m.requires.0 l.invariant.1 in
+    let many = terms_count c.args.q (λ i. bare_term (c.args.first + i) ∷ []) l.c l.out c.requires.0 l.invariant.1 in
     record {
-      terms_lt_most_terms = (omega (arith, many, length_singles l.c (λ i. bare_term (m.args.first + i))), omega (arith, m.requires));
+      terms_lt_most_terms = (omega (arith, many, length_singles l.c (λ i. bare_term (c.args.first + i))), omega (arith, c.requires));
       short = record { least = omega arith; most = omega arith; second = λ h. refl; third = λ h. refl };
     }
 
 pub loop-c-preserved : goal.loop-c-preserved
 loop-c-preserved c =
-    let m = c in
     let l = c.loop-c in
-    let many = terms_count m.args.q (λ i. bare_term (m.args.first + i) ∷ []) l.c l.out m.requires.0 l.invariant.1 in (
+    let many = terms_count c.args.q (λ i. bare_term (c.args.first + i) ∷ []) l.c l.out c.requires.0 l.invariant.1 in (
       omega arith,
-      terms_next m.args.q (λ i. bare_term (m.args.first + i) ∷ []) l.c l.out c.with_term-out.result l.invariant.1
-          (λ b. c.with_term-out.ensures b.sheet b.same (name_there l.out b (m.args.first + l.c) (omega (arith, many, m.requires)))),
+      terms_next c.args.q (λ i. bare_term (c.args.first + i) ∷ []) l.c l.out c.with_term-out.result l.invariant.1
+          (λ b. c.with_term-out.ensures b.sheet b.same (name_there l.out b (c.args.first + l.c) (omega (arith, many, c.requires)))),
     )
 
 pub returns : goal.returns

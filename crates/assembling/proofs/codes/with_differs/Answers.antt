@@ -25,26 +25,24 @@ loop-s-init c = (omega arith, literals_none c.args.q (apart c.args.sizes c.args.
 
 pub with_differs_of-out-requires : goal.with_differs_of-out-requires
 with_differs_of-out-requires c =
-    let l = c.loop-s in
-    let m = c in (
-      literals_building m.args.q (apart m.args.sizes m.args.starts) l.s l.out m.requires.0 l.invariant.1,
-      omega (arith, c.wide-start.ensures.0, c.wide-size.ensures.0, m.requires.3 l.s (omega arith)),
+    let l = c.loop-s in (
+      literals_building c.args.q (apart c.args.sizes c.args.starts) l.s l.out c.requires.0 l.invariant.1,
+      omega (arith, c.wide-start.ensures.0, c.wide-size.ensures.0, c.requires.3 l.s (omega arith)),
       omega (
         arith,
-        m.requires,
+        c.requires,
         ap pairs c.wide-size.ensures.0,
-        literals_count m.args.q (apart m.args.sizes m.args.starts) l.s l.out m.requires.0 l.invariant.1,
-        apart_many m.args.sizes m.args.starts l.s,
-        sum_to_grows (suc l.s) m.args.n (λ s. pairs (at m.args.sizes s)) (omega arith),
+        literals_count c.args.q (apart c.args.sizes c.args.starts) l.s l.out c.requires.0 l.invariant.1,
+        apart_many c.args.sizes c.args.starts l.s,
+        sum_to_grows (suc l.s) c.args.n (λ s. pairs (at c.args.sizes s)) (omega arith),
       ),
     )
 
 pub loop-s-preserved : goal.loop-s-preserved
 loop-s-preserved c =
-    let l = c.loop-s in
-    let m = c in (
+    let l = c.loop-s in (
       omega arith,
-      literals_next m.args.q (apart m.args.sizes m.args.starts) l.s l.out c.with_differs_of-out.result l.invariant.1
+      literals_next c.args.q (apart c.args.sizes c.args.starts) l.s l.out c.with_differs_of-out.result l.invariant.1
           (λ b. c.with_differs_of-out.ensures b ∙ ap₂ (λ (x y : ℕ). packed (more_literals b.sheet (differs_of x y))) c.wide-start.ensures.0 c.wide-size.ensures.0),
     )
 

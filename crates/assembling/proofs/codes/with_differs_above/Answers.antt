@@ -17,19 +17,17 @@ loop-k-init c = (omega arith, literals_none c.args.q (λ i. differ c.args.first 
 
 pub with_literal-out-requires : goal.with_literal-out-requires
 with_literal-out-requires c =
-    let m = c in
     let l = c.loop-k in
-    omega (arith, literals_count m.args.q (λ i. differ m.args.first (m.args.first + suc i) ∷ []) l.k l.out m.requires.0 l.invariant.1, length_singles l.k (λ i. differ m.args.first (m.args.first + suc i)))
+    omega (arith, literals_count c.args.q (λ i. differ c.args.first (c.args.first + suc i) ∷ []) l.k l.out c.requires.0 l.invariant.1, length_singles l.k (λ i. differ c.args.first (c.args.first + suc i)))
 
 pub loop-k-preserved : goal.loop-k-preserved
 loop-k-preserved c =
-    let m = c in
     let l = c.loop-k in (
       omega arith,
-      literals_next m.args.q (λ i. differ m.args.first (m.args.first + suc i) ∷ []) l.k l.out c.with_literal-out.result l.invariant.1
+      literals_next c.args.q (λ i. differ c.args.first (c.args.first + suc i) ∷ []) l.k l.out c.with_literal-out.result l.invariant.1
           (λ b.
           c.with_literal-out.ensures b.sheet false b.same refl
-          ∙ ap (λ (n : ℕ). packed (more_literals b.sheet (differ m.args.first (m.args.first + n) ∷ []))) (add-one l.k)),
+          ∙ ap (λ (n : ℕ). packed (more_literals b.sheet (differ c.args.first (c.args.first + n) ∷ []))) (add-one l.k)),
     )
 
 pub returns : goal.returns

@@ -18,28 +18,26 @@ loop-c-init c = (omega arith, literals_none c.args.q (above c.args.start c.args.
 
 pub with_differs_above-out-requires : goal.with_differs_above-out-requires
 with_differs_above-out-requires c =
-    let m = c in
     let l = c.loop-c in (
-      literals_building m.args.q (above m.args.start m.args.size) l.c l.out m.requires.0 l.invariant.1,
-      omega (arith, m.requires),
+      literals_building c.args.q (above c.args.start c.args.size) l.c l.out c.requires.0 l.invariant.1,
+      omega (arith, c.requires),
       omega (
         arith,
-        m.requires,
-        literals_count m.args.q (above m.args.start m.args.size) l.c l.out m.requires.0 l.invariant.1,
-        length_nested l.c (λ i. m.args.size - suc i) (λ i k. differ (m.args.start + i) (m.args.start + i + suc k)),
-        sum_to_grows (suc l.c) m.args.size (λ i. m.args.size - suc i) (omega arith),
+        c.requires,
+        literals_count c.args.q (above c.args.start c.args.size) l.c l.out c.requires.0 l.invariant.1,
+        length_nested l.c (λ i. c.args.size - suc i) (λ i k. differ (c.args.start + i) (c.args.start + i + suc k)),
+        sum_to_grows (suc l.c) c.args.size (λ i. c.args.size - suc i) (omega arith),
       ),
     )
 
 pub loop-c-preserved : goal.loop-c-preserved
 loop-c-preserved c =
-    let m = c in
     let l = c.loop-c in (
       omega arith,
-      literals_next m.args.q (above m.args.start m.args.size) l.c l.out c.with_differs_above-out.result l.invariant.1
+      literals_next c.args.q (above c.args.start c.args.size) l.c l.out c.with_differs_above-out.result l.invariant.1
           (λ b.
           c.with_differs_above-out.ensures b
-          ∙ ap (λ (n : ℕ). packed (more_literals b.sheet (differs_above (m.args.start + l.c) (m.args.size - n)))) (add-one l.c)),
+          ∙ ap (λ (n : ℕ). packed (more_literals b.sheet (differs_above (c.args.start + l.c) (c.args.size - n)))) (add-one l.c)),
     )
 
 pub returns : goal.returns

@@ -12,20 +12,18 @@ loop-c-init c = (omega arith, symbols_none c.args.q (λ i. code_symbol c.args.s 
 
 pub with_symbol-out-requires : goal.with_symbol-out-requires
 with_symbol-out-requires c =
-    let m = c in
     let l = c.loop-c in
     record {
-      symbols_lt_most_symbols = omega (arith, (symbols_count m.args.q (λ i. code_symbol m.args.s ∷ []) l.c l.out m.requires.0 l.invariant.1).0, length_singles l.c (λ i. code_symbol m.args.s));
+      symbols_lt_most_symbols = omega (arith, (symbols_count c.args.q (λ i. code_symbol c.args.s ∷ []) l.c l.out c.requires.0 l.invariant.1).0, length_singles l.c (λ i. code_symbol c.args.s));
       short = record { least = omega arith; most = omega arith; second = λ h. refl; third = λ h. refl };
     }
 
 pub loop-c-preserved : goal.loop-c-preserved
 loop-c-preserved c =
-    let m = c in
     let l = c.loop-c in
-    let none = (symbols_count m.args.q (λ i. code_symbol m.args.s ∷ []) l.c l.out m.requires.0 l.invariant.1).1 in (
+    let none = (symbols_count c.args.q (λ i. code_symbol c.args.s ∷ []) l.c l.out c.requires.0 l.invariant.1).1 in (
       omega arith,
-      symbols_next m.args.q (λ i. code_symbol m.args.s ∷ []) l.c l.out c.with_symbol-out.result l.invariant.1
+      symbols_next c.args.q (λ i. code_symbol c.args.s ∷ []) l.c l.out c.with_symbol-out.result l.invariant.1
           (λ b. c.with_symbol-out.ensures b.sheet b.same (still_early l.out b (omega (arith, none)))),
     )
 

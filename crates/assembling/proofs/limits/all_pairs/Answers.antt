@@ -12,15 +12,14 @@ loop-s-init c = (omega arith, refl, omega arith)
 
 pub loop-s-preserved : goal.loop-s-preserved
 loop-s-preserved c =
-    let l = c.loop-s in
-    let m = c in (
+    let l = c.loop-s in (
       omega arith,
       omega (
         arith,
         l.invariant,
         c.pairs_of-sum.ensures.0,
         ap pairs c.wide.ensures.0,
-        ap (λ (k : ℕ). sum_to k (λ i. pairs (at m.args.sizes i))) (add-one l.s),
+        ap (λ (k : ℕ). sum_to k (λ i. pairs (at c.args.sizes i))) (add-one l.s),
       ),
       omega (arith, l.invariant, c.pairs_of-sum.ensures.1),
     )

@@ -11,11 +11,10 @@ loop-c-init c = (omega arith, omega (arith, c.requires), refl, omega arith)
 
 pub loop-c-preserved : goal.loop-c-preserved
 loop-c-preserved c =
-    let l = c.loop-c in
-    let m = c in (
+    let l = c.loop-c in (
       omega arith,
       omega arith,
-      omega (arith, l.invariant, ap (λ (k : ℕ). sum_to k (λ i. m.args.n - suc i)) (add-one l.c)),
+      omega (arith, l.invariant, ap (λ (k : ℕ). sum_to k (λ i. c.args.n - suc i)) (add-one l.c)),
       omega (arith, l.invariant),
     )
 

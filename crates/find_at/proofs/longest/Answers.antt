@@ -1,0 +1,7 @@
+-- `find_at::longest` meets its contract.
+use Rattle.find_at.proofs.Searching.{ceilings_extent}
+use borrow.Author.Rules.{rules}
+use Rattle.find_at.proofs.longest.Goals as goal
+
+pub returns : goal.returns
+returns c = ceilings_extent c.args.p c.extents-offsets.result c.extents-offsets.ensures

@@ -1,0 +1,9 @@
+-- `test_questions::walks::draw_events` is safe and ends.
+use Rattle.std.proofs.Common.{◌-◌, ◌≤◌}
+use Rattle.test_questions.proofs.walks.draw_events.Given as goal
+
+abbrev pub invariant-loop-k : goal.invariant-loop-k
+invariant-loop-k l = l.k ≤ 12
+
+abbrev pub decreases-loop-k : goal.decreases-loop-k
+decreases-loop-k l = 12 - l.k
