@@ -37,7 +37,13 @@ fn append(line: &mut [u8], held: usize, part: &[u8]) -> usize
 }
 
 // Answers a line of which this much is held; false where the answer cannot be written.
-fn answer_held<W: Write, E: Write>(to: &mut W, errors: &mut E, line: &[u8], held: usize, out: &mut [u8]) -> bool
+fn answer_held<W: Write, E: Write>(
+    to: &mut W,
+    errors: &mut E,
+    line: &[u8],
+    held: usize,
+    out: &mut [u8],
+) -> bool
     requires { (held ≤ length line.now) × (answer_room ≤ length out.old) }
 {
     let n = replies::answer(&line[..held], out);
@@ -49,7 +55,14 @@ fn answer_held<W: Write, E: Write>(to: &mut W, errors: &mut E, line: &[u8], held
 }
 
 // Answers the lines that end in a part of the input, and holds what is behind the last line feed.
-fn take_lines<W: Write, E: Write>(to: &mut W, errors: &mut E, part: &[u8], line: &mut [u8], before: usize, out: &mut [u8]) -> Rest
+fn take_lines<W: Write, E: Write>(
+    to: &mut W,
+    errors: &mut E,
+    part: &[u8],
+    line: &mut [u8],
+    before: usize,
+    out: &mut [u8],
+) -> Rest
     requires { (before ≤ length line.old) × (answer_room ≤ length out.old) }
     ensures { result.held ≤ length line.old }
 {
@@ -71,7 +84,14 @@ fn take_lines<W: Write, E: Write>(to: &mut W, errors: &mut E, part: &[u8], line:
 }
 
 // Reads once, and answers the lines that end in what was read; at the end of the input, a last line without a line feed.
-fn turn<R: Read, W: Write, E: Write>(input: &mut R, to: &mut W, errors: &mut E, line: &mut [u8; HELD], held: usize, out: &mut [u8; ANSWER_ROOM]) -> Rest
+fn turn<R: Read, W: Write, E: Write>(
+    input: &mut R,
+    to: &mut W,
+    errors: &mut E,
+    line: &mut [u8; HELD],
+    held: usize,
+    out: &mut [u8; ANSWER_ROOM],
+) -> Rest
     requires { held ≤ 262146 }
     ensures { result.held ≤ 262146 }
 {

@@ -66,7 +66,13 @@ fn say<W: Write>(out: &mut W, bytes: &[u8]) -> bool {
 }
 
 // Finds, and prints what was found; the buffers are lent by the caller. Like each function below, it gives back whether all was written.
-fn answer<W: Write>(out: &mut W, sheet: &[u8], codes: &mut [u8], tables: &mut [u8], line: &mut [u8]) -> bool
+fn answer<W: Write>(
+    out: &mut W,
+    sheet: &[u8],
+    codes: &mut [u8],
+    tables: &mut [u8],
+    line: &mut [u8],
+) -> bool
     requires { 2048 ≤ length line.old }
 {
     let parsing = sheet::parse(sheet);
@@ -84,7 +90,13 @@ fn answer<W: Write>(out: &mut W, sheet: &[u8], codes: &mut [u8], tables: &mut [u
 }
 
 // Prints an answer: the sum, the sorts, the symbols. The tables stand in front of the buffer.
-fn print_answer<W: Write>(out: &mut W, p: Parsed, sum: usize, buffer: &[u8], line: &mut [u8]) -> bool
+fn print_answer<W: Write>(
+    out: &mut W,
+    p: Parsed,
+    sum: usize,
+    buffer: &[u8],
+    line: &mut [u8],
+) -> bool
     requires printable { Printable p buffer.now }
     requires in_bounds { 2048 ≤ length line.old }
 {

@@ -1,5 +1,6 @@
 -- `bundle::parts_of` meets its contract.
 use Prim.Native.Nat.{ℕ, ◌+◌, ◌<◌}
+use native.Mathlib.Omega.{arith}
 use mathlib.Core.Path.{◌≡◌, refl, ap, sym, ◌∙◌}
 use mathlib.Core.Bool.{Bool, true, false}
 use mathlib.Core.List.{List}
@@ -33,8 +34,9 @@ pub returns-in_default : goal.returns-in_default
 returns-in_default c =
     let l = c.loop-at in
     let s = c.args.s.now in
-    reached_cut s l.at l.many l.starts l.ends l.invariant.0 c.loop-at-test.true
-    (is_cut s l.at c.record_at-found.result c.record_at-found.ensures c.loop-at-test.true c.in_default.not-Record (cut s l.at) refl)
+    let h : l.at < length s = omega arith in
+    reached_cut s l.at l.many l.starts l.ends l.invariant.0 h
+    (is_cut s l.at c.record_at-found.result c.record_at-found.ensures h c.in_default.not-Record (cut s l.at) refl)
 
 pub returns-then-kind-ne-SHEET_KIND : goal.returns-then-kind-ne-SHEET_KIND
 returns-then-kind-ne-SHEET_KIND c =
