@@ -1,6 +1,6 @@
 -- The wrong programs of request (h) are refuted: what a call that sizes, or that finds at given sizes, has written (`FirstSizes`, `DeliveredAt`), with which
 -- numbers a call is turned down, and a worked sheet that has an answer at one size and none at another.
-use Prim.Native.Nat.{ℕ, ◌≤◌}
+use Prim.Native.Nat.{ℕ}
 use native.Mathlib.Decide.{dec_lt}
 use native.Mathlib.Omega.{arith}
 use mathlib.Core.Path.{◌≡◌, refl, ap, sym, ◌∙◌}
