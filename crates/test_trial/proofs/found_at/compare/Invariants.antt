@@ -1,0 +1,9 @@
+-- `test_trial::found_at::compare` is safe and ends.
+use Prim.Native.Nat.{◌≤◌, ◌-◌}
+use Rattle.test_trial.proofs.found_at.compare.Given as goal
+
+abbrev pub invariant-loop-v : goal.invariant-loop-v
+invariant-loop-v l = l.v ≤ l.n
+
+abbrev pub decreases-loop-v : goal.decreases-loop-v
+decreases-loop-v l = l.n - l.v
