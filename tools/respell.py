@@ -1,7 +1,7 @@
 #!/usr/bin/env python3
 """Brings the repository's own definitions, constructors, fields and lemmas to the spelling of today's Rattle: words in snake case.
 
-usage: python3 tools/respell.py, once, at the top, after /opt/rattle/port/port.py. It goes by what each file declares and imports.
+usage: python3 tools/respell.py, once, at the top, after the kit's port.py. It goes by what each file declares and imports.
 Functions of src/, exported names, strings, inputs and outputs are not touched; in comments and pages only code spans are.
 """
 import collections
@@ -13,8 +13,6 @@ WORD = re.compile(r"[^\s(){}.;,@\"«»`\[\]\\]+")
 HEAD = re.compile(r"^( *)((?:(?:pub|abbrev|unfoldable|private|opaque|data|record|mutual) +)*)([^\s():{}.;,=]+)( .*)?$")
 NOT_HEADS = ("let", "in", "where", "use", "section", "module", "unfolding", "λ", "|", "record", "data", "elim")
 USE = re.compile(r"^(?:ghost )?(?:pub )?use (Rattle\.[^\s{;]+?)\.?(?:\{(.*?)\})?(?: as (\S+?))?;?$", re.M)
-# Lemmas that would have the name of a definition, or of another lemma.
-APART = {}
 
 
 def files(top):
