@@ -50,7 +50,7 @@ module _ (sh : Sheet) (M : Structure) where
   -- ---- the fields, the total and that there are no fills
   pub many_bounds : length (fitted_sheet sh M).bounds ≡ length sh.bounds
   unfolding fitted_sheet
-  many_bounds = length_singles (length sh.bounds) (sized_bound M)
+  many_bounds = length_singles (length sh.bounds) _
 
   pub bound_of : (s : ℕ) → s < length sh.bounds → bound_at (fitted_sheet sh M) s ≡ sized_bound M s
   unfolding fitted_sheet

@@ -1,20 +1,13 @@
 -- `writing::write_answer` meets its contract: the codes, then the sizes, then over them the tables.
-use Prim.Native.Nat.{ℕ, ◌≤◌}
 use native.Mathlib.Omega.{arith}
-use mathlib.Core.Path.{◌≡◌, ap, sym, ◌∙◌}
-use mathlib.Core.List.{List, ◌++◌}
-use lib.ListN.{length, take, drop}
+use mathlib.Core.Path.{sym, ◌∙◌}
+use lib.ListN.{take}
 use lib.Seq.{length-take-le, take-length}
-use Rattle.prelude.specs.Lists.{at, firsts, fronted}
+use Rattle.prelude.specs.Lists.{at}
 use Rattle.writing.proofs.Writing.{limits, sizes_fit}
 use Rattle.prelude.proofs.Fronted.{copied_front}
 use Rattle.writing.proofs.Answering.{sizes_front, answer_written}
 use Rattle.writing.proofs.write_answer.Goals as goal
-
--- what stands in a buffer once the first n entries of a list are copied to its front
-copied : (n : ℕ) (l buffer : List ℕ) → n ≤ length l → take n l ++ drop (length (take n l)) buffer ≡ fronted (firsts n (at l)) buffer
-copied n l buffer h =
-    ap (λ (x : List ℕ). x ++ drop (length (take n l)) buffer) (sym (take-length (take n l))) ∙ copied_front n l buffer h
 
 pub slice_bounds-codes-end : goal.slice_bounds-codes-end
 slice_bounds-codes-end c =
@@ -58,9 +51,9 @@ sum_of-requires c =
 pub returns : goal.returns
 returns c sh k =
     let l = limits c.args.p (at c.args.sizes) (at c.args.codes) c.args.table_out.now c.requires.0 in
-    let sized = c.copy-2.ensures.1 ∙ copied c.args.p.sorts c.args.sizes c.args.table_out.now (omega (arith, l.sorts)) in
+    let sized = c.copy-2.ensures.1 ∙ (rw (take-length (take c.args.p.sorts c.args.sizes)) at (copied_front c.args.p.sorts c.args.sizes c.args.table_out.now (omega (arith, l.sorts)))) in
     answer_written c.args.p c.args.sizes c.args.codes sh k c.args.code_out.now c.args.table_out.now _ _ _ _
-    (c.copy.ensures.1 ∙ copied c.args.p.terms c.args.codes c.args.code_out.now (omega (arith, l.terms)))
+    (c.copy.ensures.1 ∙ (rw (take-length (take c.args.p.terms c.args.codes)) at (copied_front c.args.p.terms c.args.codes c.args.code_out.now (omega (arith, l.terms)))))
     sized
     (c.write_tables.ensures sh k (sizes_front c.args.p c.args.sizes c.args.codes sh k c.args.table_out.now _ (omega (arith, l.sorts)) sized))
     c.sum_of.ensures
