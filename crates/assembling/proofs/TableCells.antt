@@ -16,6 +16,7 @@ use Rattle.logic.specs.Structure.{Structure}
 use Rattle.logic.specs.Order.{sum_of}
 use Rattle.layout.specs.Packed.{first, second}
 use Rattle.layout.specs.Parts.{payload_bytes}
+use Rattle.layout.specs.Payloads.{Short}
 use Rattle.layout.specs.declared.Parsed.{Parsed}
 use Rattle.layout.specs.declared.Payload.{Payload}
 use Rattle.tables.specs.Layout.{cells, table_bytes}
@@ -183,23 +184,21 @@ module _ (p : Parsed) (t : Source p) (starts : ℕ → ℕ) (st : StartsOf t sta
   few : Each (λ s. s < 8) ps
   few = params_below_8 t.sheet p t.packs f h
 
-  pub payload_none : at p.param0 f ≡ missing → CellPayload t f row col (record { len = 1; b0 = name; b1 = missing; b2 = missing })
+  pub payload_none : {z : Short 1 missing missing} → at p.param0 f ≡ missing → CellPayload t f row col (record { len = 1; b0 = name; b1 = missing; b2 = missing; short = z })
   payload_none e =
       let none : ps ≡ [] = no_params ps few (sym first_is ∙ e) in
       record {
-        short = record { least = omega arith; most = omega arith; second = λ l. refl; third = λ l. refl };
         symbol = is;
         args = ap (λ (l : List ℕ). code_args t.structure l (take (length l) (row ∷ col ∷ []))) (sym none);
       }
 
   pub payload_one :
-      (x : ℕ) → (at p.param0 f ≡ missing → ⊥) → at p.param1 f ≡ missing → x ≡ starts (at p.param0 f) + row
-      → CellPayload t f row col (record { len = 2; b0 = name; b1 = x; b2 = missing })
+      (x : ℕ) → {z : Short 2 x missing} → (at p.param0 f ≡ missing → ⊥) → at p.param1 f ≡ missing → x ≡ starts (at p.param0 f) + row
+      → CellPayload t f row col (record { len = 2; b0 = name; b1 = x; b2 = missing; short = z })
   payload_one x d e q =
       let one : ps ≡ first ps ∷ [] = one_param ps few (λ z. d (first_is ∙ z)) (sym second_is ∙ e) in
       let there : first ps < length t.sheet.bounds = (subst (λ (l : List ℕ). Each (λ s. s < length t.sheet.bounds) l) one (t.packs.formed.params f h)).0 in
       record {
-        short = record { least = omega arith; most = omega arith; second = λ l. absurd (omega arith); third = λ l. refl };
         symbol = is;
         args =
             ap (λ (y : ℕ). y ∷ []) (q ∙ ap (λ (s : ℕ). starts s + row) first_is ∙ ap (λ (y : ℕ). y + row) (st (first ps) there))
@@ -207,13 +206,12 @@ module _ (p : Parsed) (t : Source p) (starts : ℕ → ℕ) (st : StartsOf t sta
       }
 
   pub payload_two :
-      (x y : ℕ) → (at p.param0 f ≡ missing → ⊥) → (at p.param1 f ≡ missing → ⊥) → x ≡ starts (at p.param0 f) + row → y ≡ starts (at p.param1 f) + col
-      → CellPayload t f row col (record { len = 3; b0 = name; b1 = x; b2 = y })
+      (x y : ℕ) → {z : Short 3 x y} → (at p.param0 f ≡ missing → ⊥) → (at p.param1 f ≡ missing → ⊥) → x ≡ starts (at p.param0 f) + row → y ≡ starts (at p.param1 f) + col
+      → CellPayload t f row col (record { len = 3; b0 = name; b1 = x; b2 = y; short = z })
   payload_two x y d e q r =
       let two : ps ≡ first ps ∷ second ps ∷ [] = two_params ps (omega (arith, t.packs.formed.arity f h)) (λ z. d (first_is ∙ z)) (λ z. e (second_is ∙ z)) in
       let there = subst (λ (l : List ℕ). Each (λ s. s < length t.sheet.bounds) l) two (t.packs.formed.params f h) in
       record {
-        short = record { least = omega arith; most = omega arith; second = λ l. absurd (omega arith); third = λ l. absurd (omega arith) };
         symbol = is;
         args =
             ap₂ (λ (a b : ℕ). a ∷ b ∷ [])

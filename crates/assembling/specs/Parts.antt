@@ -6,7 +6,7 @@ use Rattle.logic.specs.Sheet.{Sheet, Symbol, Term, Literal, symbol_at}
 use Rattle.logic.specs.Structure.{Structure, Interprets}
 use Rattle.logic.specs.Order.{sum_of}
 use Rattle.layout.specs.Packed.{packed}
-use Rattle.layout.specs.Parts.{payload_bytes, Short}
+use Rattle.layout.specs.Parts.{payload_bytes}
 use Rattle.layout.specs.declared.Parsed.{Parsed}
 use Rattle.layout.specs.declared.Payload.{Payload}
 use Rattle.tables.specs.Layout.{cells, offset, extent, table_bytes}
@@ -92,6 +92,5 @@ pub record TablesOf {p : Parsed} (t : Source p) (tables : List ℕ) : Type 0 whe
 
 -- a payload says the name f at the expressions of the codes of a row and a column, as many of them as it takes
 pub record CellPayload {p : Parsed} (t : Source p) (f row col : ℕ) (r : Payload) : Type 0 where
-  pub short : Short r
   pub symbol : r.b0 ≡ f
   pub args : drop 1 (payload_bytes r) ≡ code_args t.structure (symbol_at t.sheet f).params (take (length (symbol_at t.sheet f).params) (row ∷ col ∷ []))

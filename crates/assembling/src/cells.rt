@@ -26,10 +26,8 @@ pub(crate) fn with_cell_terms(
 {
     let n = p.symbols;
     let mut out = q;
-    let mut f: usize = 0;
-    while f < n {
+    for f in 0..n {
         out = with_table_terms(out, p, sizes, starts, f);
-        f += 1;
     }
     out
 }
@@ -50,11 +48,9 @@ fn with_table_terms(
     let columns = tables::width_of(sizes, wide(p.param1[f]));
     let many = rows * columns;
     let mut out = q;
-    let mut k: usize = 0;
-    while k < many {
+    for k in 0..many {
         let term = cell_term(p, starts, f, k / columns, k % columns);
         out = with_term(out, term);
-        k += 1;
     }
     out
 }
@@ -119,14 +115,12 @@ pub(crate) fn with_sames(
     let n = p.symbols;
     let sorts = p.sorts;
     let mut out = q;
-    let mut f: usize = 0;
-    while f < n {
+    for f in 0..n {
         let from = offsets[f];
         let to = offsets[f + 1];
         let result = wide(p.result[f]);
         let first = codes + (from - sorts);
         out = with_table_sames(out, first, starts, result, &tables[from..to]);
-        f += 1;
     }
     out
 }
@@ -143,12 +137,10 @@ fn with_table_sames(
     ensures { (b : Building q) → result ≡ packed (more_literals b.sheet (sames_of first (at starts s) cells.now)) }
 {
     let mut out = q;
-    let mut k: usize = 0;
-    while k < cells.len() {
+    for (k, code) in cells.iter().enumerate() {
         let left = (first + k) as u8;
-        let right = code_term(starts, s, wide(cells[k]));
+        let right = code_term(starts, s, wide(*code));
         out = with_literal(out, 1, left, right);
-        k += 1;
     }
     out
 }

@@ -11,16 +11,14 @@ use layout::{Parsed, Payload};
 use prelude::{MISSING, MOST_SORTS, wide};
 
 // A name for each code of the first n fields, by field and then code.
+// Kept: a function for each list, here and in `cells`, and not one over a closure: each says which records stand behind those that were there.
 pub(crate) fn with_code_symbols(q: Parsed, sizes: [u8; MOST_SORTS], n: usize) -> Parsed
     requires { Building q × (q.terms ≡ 0) × (n ≤ most_sorts) × (q.symbols + sum_to n (at sizes) ≤ most_symbols) }
     ensures { (b : Building q) → result ≡ packed (more_symbols b.sheet (collect n (λ s. collect (at sizes s) (λ c. code_symbol s ∷ [])))) }
 {
     let mut out = q;
-    let mut s: usize = 0;
-    while s < n {
-        let size = wide(sizes[s]);
-        out = with_symbols_of(out, s, size);
-        s += 1;
+    for (s, size) in sizes[..n].iter().enumerate() {
+        out = with_symbols_of(out, s, wide(*size));
     }
     out
 }
@@ -37,10 +35,8 @@ fn with_symbols_of(q: Parsed, s: usize, size: usize) -> Parsed
         b2: MISSING,
     };
     let mut out = q;
-    let mut c: usize = 0;
-    while c < size {
+    for c in 0..size {
         out = with_symbol(out, name);
-        c += 1;
     }
     out
 }
@@ -51,8 +47,7 @@ pub(crate) fn with_code_terms(q: Parsed, first: usize, n: usize) -> Parsed
     ensures { (b : Building q) → result ≡ packed (more_terms b.sheet (collect n (λ c. bare_term (first + c) ∷ []))) }
 {
     let mut out = q;
-    let mut c: usize = 0;
-    while c < n {
+    for c in 0..n {
         let term = Payload {
             len: 1,
             b0: (first + c) as u8,
@@ -60,7 +55,6 @@ pub(crate) fn with_code_terms(q: Parsed, first: usize, n: usize) -> Parsed
             b2: MISSING,
         };
         out = with_term(out, term);
-        c += 1;
     }
     out
 }
@@ -76,12 +70,10 @@ pub(crate) fn with_differs(
     ensures { (b : Building q) → result ≡ packed (more_literals b.sheet (collect n (λ s. differs_of (at starts s) (at sizes s)))) }
 {
     let mut out = q;
-    let mut s: usize = 0;
-    while s < n {
+    for s in 0..n {
         let start = wide(starts[s]);
         let size = wide(sizes[s]);
         out = with_differs_of(out, start, size);
-        s += 1;
     }
     out
 }
@@ -92,11 +84,9 @@ fn with_differs_of(q: Parsed, start: usize, size: usize) -> Parsed
     ensures { (b : Building q) → result ≡ packed (more_literals b.sheet (differs_of start size)) }
 {
     let mut out = q;
-    let mut c: usize = 0;
-    while c < size {
+    for c in 0..size {
         let many = size - (c + 1);
         out = with_differs_above(out, start + c, many);
-        c += 1;
     }
     out
 }
@@ -108,11 +98,9 @@ fn with_differs_above(q: Parsed, first: usize, many: usize) -> Parsed
 {
     let left = first as u8;
     let mut out = q;
-    let mut k: usize = 0;
-    while k < many {
+    for k in 0..many {
         let right = (first + (k + 1)) as u8;
         out = with_literal(out, 0, left, right);
-        k += 1;
     }
     out
 }

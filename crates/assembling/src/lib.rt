@@ -53,11 +53,9 @@ fn starts_of(sizes: [u8; MOST_SORTS], n: usize) -> [u8; MOST_SORTS]
 {
     let mut starts = [0u8; MOST_SORTS];
     let mut sum: usize = 0;
-    let mut s: usize = 0;
-    while s < n {
+    for s in 0..n {
         starts[s] = sum as u8;
         sum += wide(sizes[s]);
-        s += 1;
     }
     starts
 }
@@ -68,11 +66,8 @@ fn sized_fields(sizes: [u8; MOST_SORTS], n: usize) -> Parsed
     ensures { result ≡ packed (sized n (at sizes)) }
 {
     let mut q = nothing();
-    let mut s: usize = 0;
-    while s < n {
-        let size = sizes[s];
-        q = with_sort(q, size, size);
-        s += 1;
+    for size in &sizes[..n] {
+        q = with_sort(q, *size, *size);
     }
     q
 }

@@ -41,10 +41,8 @@ fn all_pairs(sizes: [u8; MOST_SORTS], n: usize) -> usize
     ensures { (result ≡ sum_to n (λ s. pairs (at sizes s))) × (result ≤ 65536 * n) }
 {
     let mut sum: usize = 0;
-    let mut s: usize = 0;
-    while s < n {
-        sum += pairs_of(wide(sizes[s]));
-        s += 1;
+    for size in &sizes[..n] {
+        sum += pairs_of(wide(*size));
     }
     sum
 }
@@ -55,10 +53,8 @@ fn pairs_of(n: usize) -> usize
     ensures { (result ≡ pairs n) × (result ≤ 65536) }
 {
     let mut sum: usize = 0;
-    let mut c: usize = 0;
-    while c < n {
+    for c in 0..n {
         sum += n - (c + 1);
-        c += 1;
     }
     sum
 }

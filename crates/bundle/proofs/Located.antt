@@ -95,6 +95,10 @@ reached_start s starts ends =
       held = record { start = λ k h. absurd (omega arith); end = λ k h. absurd (omega arith) };
     }
 
+no_length : (ps : List Part) → length ps ≡ 0 → ps ≡ []
+no_length [] h = refl
+no_length (p ∷ ps) h = absurd (omega arith)
+
 located_none : (s : List ℕ) → parts_from most_sheets s 0 ≡ none → parts s ≡ []
 unfolding parts
 located_none s e = ap (λ (o : Option (List Part)). get_or o []) e
@@ -110,6 +114,10 @@ module _ (s : List ℕ) (i many : ℕ) (starts ends : List ℕ) (g : Reached s i
       subst (λ (ps : List Part). Located ps (record { many = many; starts = starts; ends = ends })) same
       (record { many = sym g.size; held = g.held })
 
+  -- without a record
+  pub reached_none : length s ≤ i → many ≡ 0 → parts s ≡ []
+  reached_none h z = no_length (parts s) (omega (arith, (reached_end h).many))
+
   -- there is room for one more
   pub reached_room : (many ≡ most_sheets → ⊥) → many < most_sheets
   reached_room h =
@@ -119,20 +127,17 @@ module _ (s : List ℕ) (i many : ℕ) (starts ends : List ℕ) (g : Reached s i
       ]
 
   -- the bundle is at fault here
-  at_fault : parts_from g.most s i ≡ none → Located (parts s) (record { many = 0; starts = starts; ends = ends })
-  at_fault e =
-      let no_part : parts s ≡ [] = located_none s (sym g.rest ∙ ap (onto g.front) e) in
-      subst (λ (ps : List Part). Located ps (record { many = 0; starts = starts; ends = ends })) (sym no_part)
-      (record { many = refl; held = record { start = λ k h. absurd (omega arith); end = λ k h. absurd (omega arith) } })
+  at_fault : parts_from g.most s i ≡ none → parts s ≡ []
+  at_fault e = located_none s (sym g.rest ∙ ap (onto g.front) e)
 
-  pub reached_cut : i < length s → cut s i ≡ true → Located (parts s) (record { many = 0; starts = starts; ends = ends })
+  pub reached_cut : i < length s → cut s i ≡ true → parts s ≡ []
   reached_cut h e = at_fault (from_cut s i g.most (sym (step_cut s i h e)))
 
   module _ (kind start len : ℕ) (e : step_at s i ≡ Record kind start len) where
-    pub reached_other : (kind ≡ sheet_kind → ⊥) → Located (parts s) (record { many = 0; starts = starts; ends = ends })
+    pub reached_other : (kind ≡ sheet_kind → ⊥) → parts s ≡ []
     reached_other h = at_fault (from_other s i kind start len e g.most h)
 
-    pub reached_ninth : many ≡ most_sheets → Located (parts s) (record { many = 0; starts = starts; ends = ends })
+    pub reached_ninth : many ≡ most_sheets → parts s ≡ []
     reached_ninth h =
         let r = g.room in
         let full : g.most ≡ 0 = omega arith in

@@ -12,14 +12,10 @@ use lib.Dec.{ltb}
 use borrow.Author.Tests.{lt-ltb, le-ltb}
 use Rattle.prelude.specs.Lists.{at, sum_to}
 use Rattle.prelude.proofs.Lists.{at_firsts, get_d_map}
-use Rattle.sizes.specs.declared.Sizing.{Sizing}
-use Rattle.sizes.specs.declared.Sizing.TheVariants as sizings
+use Rattle.bundle.specs.Bundle.{Alone, sum_alone, refused_alone, Part, most_sheets, sheet_in, parts, sheets, smallest, Outcome, turned_down, summed, joined, summing, gives, consider, bundling, Bundling, Left}
 use Rattle.answer.specs.Answer.{sum}
-use Rattle.bundle.specs.Bundle.{Part, most_sheets, sheet_in, parts, sheets, smallest, Outcome, turned_down, summed, joined, summing, gives, consider, bundling}
 use Rattle.bundle.specs.Promise.{sheet_at, left_in}
 use Rattle.bundle.specs.Written.{bundle_of}
-use Rattle.bundle.specs.declared.Bundling.{Bundling}
-use Rattle.bundle.specs.declared.Stock.TheVariants.{Left}
 use Rattle.bundle.proofs.Located.{parts_few}
 use Rattle.bundle.proofs.Smallest.{smallest_exactly}
 use Rattle.bundle.proofs.Summing.{sharing_over, sharing_within}
@@ -27,16 +23,16 @@ use Rattle.bundle.proofs.Promised.{promised}
 use Rattle.bundle.proofs.Written.{bundled_sheets}
 
 -- THEOREM: each sum is the sheet's own answer
-pub own_sum : (s : List ℕ) (limit left k : ℕ) → (bundling s limit).stock ≡ Left left → k < length (parts s) → smallest (sheet_at s k) ≡ sizings.Sized (at (bundling s limit).sums k)
+pub own_sum : (s : List ℕ) (limit left k : ℕ) → (bundling s limit).stock ≡ Left left → k < length (parts s) → smallest (sheet_at s k) ≡ sum_alone (at (bundling s limit).sums k)
 own_sum s limit left k e h =
     let x = (promised s limit).shares left e in
     (smallest_exactly (sheet_at s k) (at x.sums k)).1 (x.all.own k h)
-    ∙ ap sizings.Sized (sym (ap (λ (l : List ℕ). at l k) x.listed ∙ at_firsts most_sheets (at x.sums) k (omega (arith, parts_few s))))
+    ∙ ap sum_alone (sym (ap (λ (l : List ℕ). at l k) x.listed ∙ at_firsts most_sheets (at x.sums) k (omega (arith, parts_few s))))
 
 -- THEOREM: bundles that have the same sheet at a place give it the same sum, whatever their other sheets and their limits are
 pub same_sum : (s t : List ℕ) (limit room left over k : ℕ) → (bundling s limit).stock ≡ Left left → (bundling t room).stock ≡ Left over → k < length (parts s) → k < length (parts t) → sheet_at s k ≡ sheet_at t k → at (bundling s limit).sums k ≡ at (bundling t room).sums k
 same_sum s t limit room left over k a b h j e =
-    let r : sizings.Sized (at (bundling s limit).sums k) ≡ sizings.Sized (at (bundling t room).sums k) = sym (own_sum s limit left k a h) ∙ ap smallest e ∙ own_sum t room over k b j in
+    let r : sum_alone (at (bundling s limit).sums k) ≡ sum_alone (at (bundling t room).sums k) = sym (own_sum s limit left k a h) ∙ ap smallest e ∙ own_sum t room over k b j in
     cc
 
 -- the number of a sheet in a bundle that was written
@@ -68,10 +64,10 @@ replaced front p q rest limit left over k few a b h other =
 
 -- ---- the order
 -- what sheets spend together, where each has an answer; there is at least one
-abbrev plus : Sizing → Option ℕ → Option ℕ
-plus (sizings.Refused n i) o = none
-plus (sizings.Sized k) none = none
-plus (sizings.Sized k) (some m) = some (k + m)
+abbrev plus : Alone → Option ℕ → Option ℕ
+plus (refused_alone n i) o = none
+plus (sum_alone k) none = none
+plus (sum_alone k) (some m) = some (k + m)
 
 abbrev spend : List (List ℕ) → Option ℕ
 spend [] = some 0
@@ -81,20 +77,20 @@ abbrev spent : List (List ℕ) → Option ℕ
 spent [] = none
 spent (p ∷ ps) = spend (p ∷ ps)
 
-plus_swap : (x y : Sizing) (o : Option ℕ) → plus x (plus y o) ≡ plus y (plus x o)
-plus_swap (sizings.Refused n i) (sizings.Refused m j) o = refl
-plus_swap (sizings.Refused n i) (sizings.Sized k) none = refl
-plus_swap (sizings.Refused n i) (sizings.Sized k) (some m) = refl
-plus_swap (sizings.Sized k) (sizings.Refused n i) none = refl
-plus_swap (sizings.Sized k) (sizings.Refused n i) (some m) = refl
-plus_swap (sizings.Sized k) (sizings.Sized l) none = refl
-plus_swap (sizings.Sized k) (sizings.Sized l) (some m) = ap some (omega arith)
+plus_swap : (x y : Alone) (o : Option ℕ) → plus x (plus y o) ≡ plus y (plus x o)
+plus_swap (refused_alone n i) (refused_alone m j) o = refl
+plus_swap (refused_alone n i) (sum_alone k) none = refl
+plus_swap (refused_alone n i) (sum_alone k) (some m) = refl
+plus_swap (sum_alone k) (refused_alone n i) none = refl
+plus_swap (sum_alone k) (refused_alone n i) (some m) = refl
+plus_swap (sum_alone k) (sum_alone l) none = refl
+plus_swap (sum_alone k) (sum_alone l) (some m) = ap some (omega arith)
 
 spend_perm : {ps qs : List (List ℕ)} → Permᴰ ps qs → spend ps ≡ spend qs
 spend_perm Permᴰ.nil = refl
 spend_perm (Permᴰ.cons e d) = ap₂ plus (ap smallest e) (spend_perm d)
 spend_perm (Permᴰ.swap {a = a} {b = b} {l = l} e₁ e₂) =
-    plus_swap (smallest a) (smallest b) (spend l) ∙ ap₂ (λ (x y : Sizing). plus x (plus y (spend l))) (ap smallest e₂) (ap smallest e₁)
+    plus_swap (smallest a) (smallest b) (spend l) ∙ ap₂ (λ (x y : Alone). plus x (plus y (spend l))) (ap smallest e₂) (ap smallest e₁)
 spend_perm (Permᴰ.trans d₁ d₂) = spend_perm d₁ ∙ spend_perm d₂
 
 spent_perm : {ps qs : List (List ℕ)} → Permᴰ ps qs → spent ps ≡ spent qs
@@ -116,10 +112,10 @@ abbrev spent_in : Outcome → Option ℕ
 spent_in (turned_down n i) = none
 spent_in (summed sums) = some (sum sums)
 
-spend_joined : (start : ℕ) (x : Sizing) (o : Outcome) → spent_in (joined start x o) ≡ plus x (spent_in o)
-spend_joined start (sizings.Refused n i) o = refl
-spend_joined start (sizings.Sized k) (turned_down n i) = refl
-spend_joined start (sizings.Sized k) (summed sums) = ap some (sum_to_first (length sums) (at (k ∷ sums)))
+spend_joined : (start : ℕ) (x : Alone) (o : Outcome) → spent_in (joined start x o) ≡ plus x (spent_in o)
+spend_joined start (refused_alone n i) o = refl
+spend_joined start (sum_alone k) (turned_down n i) = refl
+spend_joined start (sum_alone k) (summed sums) = ap some (sum_to_first (length sums) (at (k ∷ sums)))
 
 spend_summing : (s : List ℕ) (ps : List Part) → spent_in (summing s ps) ≡ spend (map (sheet_in s) ps)
 unfolding summing

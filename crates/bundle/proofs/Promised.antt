@@ -6,15 +6,17 @@ use mathlib.Core.Path.{◌≡◌, refl, ap, ap₂, sym, ◌∙◌, subst₂}
 use mathlib.Core.Logic.{◌⊎◌, inl, inr}
 use mathlib.Core.List.{List, [], ◌∷◌}
 use lib.ListN.{length, replicate}
+use Rattle.std.specs.Prelude.{Result, Ok, Err}
+use Rattle.prelude.specs.declared.refusal.Refusal.{Refusal}
+use Rattle.prelude.proofs.Causes.{one_number}
+use Rattle.bundle.specs.declared.Shares.{Shares}
+use Rattle.prelude.specs.Causes as causes
 use Rattle.prelude.specs.Lists.{at, firsts}
 use Rattle.layout.specs.Layout.{InSheet}
+use Rattle.sheet.proofs.Refusals.{in_sheet_known}
 use Rattle.answer.specs.Answer.{sum}
-use Rattle.sizes.specs.declared.Sizing.{Sizing}
-use Rattle.sizes.specs.declared.Sizing.TheVariants as sizings
-use Rattle.bundle.specs.Bundle.{Part, most_sheets, sheet_in, parts, smallest, Outcome, turned_down, summed, joined, summing, refusal, sharing, gives, consider, bundling}
+use Rattle.bundle.specs.Bundle.{Alone, sum_alone, refused_alone, Part, most_sheets, sheet_in, parts, smallest, Outcome, turned_down, summed, joined, summing, refusal, sharing, gives, consider, bundling, answered, Bundling, Left, Refused, Stock, shared_out}
 use Rattle.bundle.specs.Promise.{part_at, sheet_at, AllSums, FirstRefused, Shared, Promised}
-use Rattle.bundle.specs.declared.Bundling.{Bundling}
-use Rattle.bundle.specs.declared.Stock.TheVariants.{Left, Refused}
 use Rattle.bundle.proofs.Smallest.{smallest_exactly, refused_exactly, alone_number}
 use Rattle.bundle.proofs.Summing.{sharing_over, sharing_within}
 
@@ -22,23 +24,23 @@ use Rattle.bundle.proofs.Summing.{sharing_over, sharing_within}
 -- these are the own sums of the parts
 pub record Own (s : List ℕ) (ps : List Part) (sums : List ℕ) : Type 0 where
   pub many : length sums ≡ length ps
-  pub own : (k : ℕ) → k < length ps → smallest (sheet_in s (part_at ps k)) ≡ sizings.Sized (at sums k)
+  pub own : (k : ℕ) → k < length ps → smallest (sheet_in s (part_at ps k)) ≡ sum_alone (at sums k)
 
 -- one of them is refused, and those before it have sums
 pub record First (s : List ℕ) (ps : List Part) (n i : ℕ) : Type 0 where
   pub which : ℕ
   pub there : which < length ps
-  pub earlier : (k : ℕ) → k < which → (m : ℕ) × (smallest (sheet_in s (part_at ps k)) ≡ sizings.Sized m)
+  pub earlier : (k : ℕ) → k < which → (m : ℕ) × (smallest (sheet_in s (part_at ps k)) ≡ sum_alone m)
   pub place : ℕ
-  pub alone : smallest (sheet_in s (part_at ps which)) ≡ sizings.Refused n place
+  pub alone : smallest (sheet_in s (part_at ps which)) ≡ refused_alone n place
   pub counted : i ≡ (part_at ps which).start + place
 
 -- a part that has a sum, in front
-module _ (s : List ℕ) (p : Part) (ps : List Part) (k : ℕ) (e : smallest (sheet_in s p) ≡ sizings.Sized k) where
+module _ (s : List ℕ) (p : Part) (ps : List Part) (k : ℕ) (e : smallest (sheet_in s p) ≡ sum_alone k) where
   own_cons : (sums : List ℕ) → Own s ps sums → Own s (p ∷ ps) (k ∷ sums)
   own_cons sums x = record { many = omega (arith, x.many); own = entries }
     where
-      entries : (j : ℕ) → j < length (p ∷ ps) → smallest (sheet_in s (part_at (p ∷ ps) j)) ≡ sizings.Sized (at (k ∷ sums) j)
+      entries : (j : ℕ) → j < length (p ∷ ps) → smallest (sheet_in s (part_at (p ∷ ps) j)) ≡ sum_alone (at (k ∷ sums) j)
       entries zero h = e
       entries (suc j) h = x.own j (omega arith)
 
@@ -46,7 +48,7 @@ module _ (s : List ℕ) (p : Part) (ps : List Part) (k : ℕ) (e : smallest (she
   first_cons n i x =
       record { which = suc x.which; there = omega (arith, x.there); earlier = before; place = x.place; alone = x.alone; counted = x.counted }
     where
-      before : (j : ℕ) → j < suc x.which → (m : ℕ) × (smallest (sheet_in s (part_at (p ∷ ps) j)) ≡ sizings.Sized m)
+      before : (j : ℕ) → j < suc x.which → (m : ℕ) × (smallest (sheet_in s (part_at (p ∷ ps) j)) ≡ sum_alone m)
       before zero h = (k, e)
       before (suc j) h = x.earlier j (omega arith)
 
@@ -60,10 +62,10 @@ unfolding summing
 summing_says s [] = record { many = refl; own = λ k h. absurd (omega arith) }
 summing_says s (p ∷ ps) = step (smallest (sheet_in s p)) refl (summing s ps) (summing_says s ps)
   where
-    step : (x : Sizing) → smallest (sheet_in s p) ≡ x → (o : Outcome) → Says s ps o → Says s (p ∷ ps) (joined p.start x o)
-    step (sizings.Refused n i) e o y = record { which = 0; there = omega arith; earlier = λ k h. absurd (omega arith); place = i; alone = e; counted = refl }
-    step (sizings.Sized k) e (turned_down n i) y = first_cons s p ps k e n i y
-    step (sizings.Sized k) e (summed sums) y = own_cons s p ps k e sums y
+    step : (x : Alone) → smallest (sheet_in s p) ≡ x → (o : Outcome) → Says s ps o → Says s (p ∷ ps) (joined p.start x o)
+    step (refused_alone n i) e o y = record { which = 0; there = omega arith; earlier = λ k h. absurd (omega arith); place = i; alone = e; counted = refl }
+    step (sum_alone k) e (turned_down n i) y = first_cons s p ps k e n i y
+    step (sum_alone k) e (summed sums) y = own_cons s p ps k e sums y
 
 -- and the other way round: the own sums, or the first refusal, decide
 own_summing : (s : List ℕ) (ps : List Part) (sums : List ℕ) → Own s ps sums → summing s ps ≡ summed sums
@@ -75,10 +77,10 @@ own_summing s (p ∷ ps) (y ∷ ys) x =
     ap₂ (joined p.start) (x.own 0 (omega arith))
     (own_summing s ps ys (record { many = omega (arith, x.many); own = λ k h. x.own (suc k) (omega arith) }))
 
-first_summing : (s : List ℕ) (ps : List Part) (n i which place : ℕ) → which < length ps → ((k : ℕ) → k < which → (m : ℕ) × (smallest (sheet_in s (part_at ps k)) ≡ sizings.Sized m)) → smallest (sheet_in s (part_at ps which)) ≡ sizings.Refused n place → i ≡ (part_at ps which).start + place → summing s ps ≡ turned_down n i
+first_summing : (s : List ℕ) (ps : List Part) (n i which place : ℕ) → which < length ps → ((k : ℕ) → k < which → (m : ℕ) × (smallest (sheet_in s (part_at ps k)) ≡ sum_alone m)) → smallest (sheet_in s (part_at ps which)) ≡ refused_alone n place → i ≡ (part_at ps which).start + place → summing s ps ≡ turned_down n i
 unfolding summing
 first_summing s [] n i which place h b a c = absurd (omega arith)
-first_summing s (p ∷ ps) n i zero place h b a c = ap (λ (x : Sizing). joined p.start x (summing s ps)) a ∙ ap (turned_down n) (sym c)
+first_summing s (p ∷ ps) n i zero place h b a c = ap (λ (x : Alone). joined p.start x (summing s ps)) a ∙ ap (turned_down n) (sym c)
 first_summing s (p ∷ ps) n i (suc which) place h b a c =
     ap₂ (joined p.start) (b 0 (omega arith)).1 (first_summing s ps n i which place (omega arith) (λ k l. b (suc k) (omega arith)) a c)
 
@@ -96,20 +98,12 @@ module _ (s : List ℕ) (limit : ℕ) where
       step [] l = absurd (omega arith)
       step (p ∷ ps) l = refl
 
-  -- the same, by how many parts there are
-  pub counted_none : length (parts s) ≡ 0 → refusal 18 0 ≡ bundling s limit
-  counted_none e = sym (no_part (by (parts s) e))
-    where
-      by : (ps : List Part) → length ps ≡ 0 → ps ≡ []
-      by [] h = refl
-      by (p ∷ ps) h = absurd (omega arith)
+  -- the same, of what the code gives back
+  pub answered_none : parts s ≡ [] → Err (causes.refusal 18 0) ≡ answered (bundling s limit)
+  answered_none e = sym (ap answered (no_part e))
 
-  pub counted_some : (length (parts s) ≡ 0 → ⊥) → gives limit (summing s (parts s)) ≡ bundling s limit
-  counted_some h =
-      elim (dec_lt 0 (length (parts s))) [
-        | yes l ↦ sym (some_part l)
-        | no l ↦ absurd (h (omega arith))
-      ]
+  pub answered_some : 1 ≤ length (parts s) → answered (gives limit (summing s (parts s))) ≡ answered (bundling s limit)
+  answered_some h = sym (ap answered (some_part h))
 
   -- what becomes of the call
   data Came : Type 0 where
@@ -258,3 +252,25 @@ module _ (s : List ℕ) (limit : ℕ) where
       by (stopped m j x b) = let z = same_number (stock b) r in elim (stops n i (subst₂ (First s (parts s)) z.0 z.1 x)) [ inl w ↦ inl w | inr w ↦ inr (inl w) ]
       by (over sums l x h b) = inr (inr (inr (same_number r (stock b)).0))
       by (enough sums l x h b) = absurd (not_left r (stock b))
+
+  -- what the code gives back where a call is turned down says why
+  pub answered_refused : (n i : ℕ) → 1 ≤ n → n ≤ 19 → answered (bundling s limit) ≡ Err (causes.refusal n i) → (bundling s limit).stock ≡ Refused n i
+  answered_refused n i a b e = step (bundling s limit).stock refl
+    where
+      known : (m : ℕ) → InSheet m ⊎ (m ≡ 11) ⊎ (m ≡ 18) ⊎ (m ≡ 19) → (1 ≤ m) × (m ≤ 19)
+      known m (inl w) = in_sheet_known m w
+      known m (inr (inl w)) = (omega arith, omega arith)
+      known m (inr (inr (inl w))) = (omega arith, omega arith)
+      known m (inr (inr (inr w))) = (omega arith, omega arith)
+
+      step : (x : Stock) → (bundling s limit).stock ≡ x → (bundling s limit).stock ≡ Refused n i
+      step (Left left) q =
+          let z : ◌≡◌ {A = Result Shares Refusal} (Ok (record { sums = (bundling s limit).sums; left = left })) (Err (causes.refusal n i)) = sym (ap (shared_out (bundling s limit).sums) q) ∙ e in
+          cc
+      step (Refused m j) q =
+          let z : ◌≡◌ {A = Result Shares Refusal} (Err (causes.refusal m j)) (Err (causes.refusal n i)) = sym (ap (shared_out (bundling s limit).sums) q) ∙ e in
+          let k = known m (refusal_number_lem m j q) in
+          let r : causes.refusal m j ≡ causes.refusal n i = cc in
+          let cause : causes.cause_of m ≡ causes.cause_of n = ap (λ (x : Refusal). x.cause) r in
+          let place : j ≡ i = ap (λ (x : Refusal). x.place) r in
+          q ∙ ap₂ Refused (one_number m n k.0 k.1 a b cause) place

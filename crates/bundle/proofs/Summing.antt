@@ -8,25 +8,20 @@ use mathlib.Core.List.{List, [], ◌∷◌, ◌++◌, append-nil, append_assoc}
 use lib.ListN.{length, drop, set, drop_of_length-le, get_or-eq_default}
 use lib.Seq.{drop-cons}
 use lib.Dec.{ltb}
-use borrow.Author.Tests.{lt-ltb, le-ltb, ne_eqb}
+use borrow.Author.Tests.{lt-ltb, le-ltb}
 use Rattle.prelude.specs.Lists.{at, sum_to, firsts}
 use Rattle.prelude.proofs.Lists.{at_set_same, at_set_other, at_firsts, length_firsts, firsts_same}
 use Rattle.answer.specs.Answer.{sum}
 use Rattle.answer.proofs.Listing.{sum_firsts}
-use Rattle.sizes.specs.declared.Sizing.{Sizing}
-use Rattle.sizes.specs.declared.Sizing.TheVariants as sizings
-use Rattle.bundle.specs.Bundle.{Part, most_sheets, sheet_in, smallest, Outcome, turned_down, summed, joined, summing, refusal, sharing}
+use Rattle.bundle.specs.Bundle.{Alone, sum_alone, refused_alone, Part, most_sheets, sheet_in, smallest, Outcome, turned_down, summed, joined, summing, refusal, sharing, Bundling, Left}
 use Rattle.bundle.specs.Promise.{part_at}
-use Rattle.bundle.specs.Parts.{settling}
-use Rattle.bundle.specs.declared.Bundling.{Bundling}
-use Rattle.bundle.specs.declared.Stock.TheVariants.{Left}
 
 -- sums known already stand in front
 abbrev pub onto : List ℕ → Outcome → Outcome
 onto front (turned_down n i) = turned_down n i
 onto front (summed sums) = summed (front ++ sums)
 
-onto_cons : (front : List ℕ) (start k : ℕ) (o : Outcome) → onto front (joined start (sizings.Sized k) o) ≡ onto (front ++ (k ∷ [])) o
+onto_cons : (front : List ℕ) (start k : ℕ) (o : Outcome) → onto front (joined start (sum_alone k) o) ≡ onto (front ++ (k ∷ [])) o
 onto_cons front start k (turned_down n i) = refl
 onto_cons front start k (summed sums) = ap summed (sym (append_assoc front (k ∷ []) sums))
 
@@ -54,13 +49,13 @@ module _ (s : List ℕ) (ps : List Part) (i : ℕ) (sums : List ℕ) (g : Added 
     part = part_at ps i
 
     -- the sheet is refused
-    pub added_refused : (n j : ℕ) → smallest (sheet_in s part) ≡ sizings.Refused n j → turned_down n (part.start + j) ≡ summing s ps
+    pub added_refused : (n j : ℕ) → smallest (sheet_in s part) ≡ refused_alone n j → turned_down n (part.start + j) ≡ summing s ps
     added_refused n j e =
-        sym (ap (onto (firsts i (at sums))) (summing_next s ps i h ∙ ap (λ (x : Sizing). joined part.start x (summing s (drop (suc i) ps))) e))
+        sym (ap (onto (firsts i (at sums))) (summing_next s ps i h ∙ ap (λ (x : Alone). joined part.start x (summing s (drop (suc i) ps))) e))
         ∙ g.rest
 
     -- the sheet has its sum
-    pub added_next : (k : ℕ) → smallest (sheet_in s part) ≡ sizings.Sized k → i < length sums → Added s ps (i + 1) (set sums i k)
+    pub added_next : (k : ℕ) → smallest (sheet_in s part) ≡ sum_alone k → i < length sums → Added s ps (i + 1) (set sums i k)
     added_next k e room =
         let next : suc i ≡ i + 1 = omega arith in
         subst (λ (n : ℕ). Added s ps n (set sums i k)) next
@@ -71,7 +66,7 @@ module _ (s : List ℕ) (ps : List Part) (i : ℕ) (sums : List ℕ) (g : Added 
               ap (λ (l : List ℕ). onto l (summing s (drop (suc i) ps)))
               (ap₂ (λ (l : List ℕ) (x : ℕ). l ++ (x ∷ [])) (firsts_same i _ _ (λ j b. at_set_other sums i k j (omega arith))) (at_set_same sums i k room))
               ∙ sym (onto_cons (firsts i (at sums)) part.start k (summing s (drop (suc i) ps)))
-              ∙ sym (ap (onto (firsts i (at sums))) (summing_next s ps i h ∙ ap (λ (x : Sizing). joined part.start x (summing s (drop (suc i) ps))) e))
+              ∙ sym (ap (onto (firsts i (at sums))) (summing_next s ps i h ∙ ap (λ (x : Alone). joined part.start x (summing s (drop (suc i) ps))) e))
               ∙ g.rest;
         })
 
@@ -94,10 +89,6 @@ sharing_over limit l h = rw (lt-ltb limit (sum l) h)
 pub sharing_within : (limit : ℕ) (l : List ℕ) → sum l ≤ limit → sharing limit l ≡ record { sums = firsts most_sheets (at l); stock = Left (limit - sum l) }
 unfolding sharing
 sharing_within limit l h = rw (le-ltb limit (sum l) h)
-
--- the refusal of a sheet goes before the limit
-pub settled_refused : (limit : ℕ) (sums : List ℕ) (n i : ℕ) → (n ≡ 0 → ⊥) → settling limit sums n i ≡ refusal n i
-settled_refused limit sums n i h = rw (ne_eqb n 0 h)
 
 -- 0 behind the first m sums changes neither their sum nor the list of eight
 sum_to_clear : (m n : ℕ) (f : ℕ → ℕ) → m ≤ n → ((k : ℕ) → m ≤ k → f k ≡ 0) → sum_to n f ≡ sum_to m f

@@ -1,15 +1,14 @@
 -- Interface. What a bundle is, and what the question "bundle" gives back for every call (docs/FORMAT.md, "The bundle" and "Refusals").
-use Rattle.std.specs.Prelude.{ℕ, zero, suc, ◌+◌, ◌-◌, cond, List, [], ◌∷◌, map, take, drop, replicate, ltb, eqb}
+use Rattle.std.specs.Prelude.{ℕ, zero, suc, ◌+◌, ◌-◌, cond, Result, Ok, Err, List, [], ◌∷◌, map, take, drop, replicate, ltb, eqb}
 use Rattle.std.proofs.Math.Option.{Option, none, some, get_or}
 use Rattle.prelude.specs.Lists.{at, firsts}
 use Rattle.records.specs.Step.{step_at}
 use Rattle.records.specs.declared.Step.TheVariants.{Record, Cut, End}
 use Rattle.layout.specs.Layout.{Reading, accepted, refused, reading}
 use Rattle.answer.specs.Answer.{Entry, answer, sum}
-use Rattle.sizes.specs.declared.Sizing.{Sizing}
-use Rattle.sizes.specs.declared.Sizing.TheVariants as sizings
-use Rattle.bundle.specs.declared.Bundling.{Bundling}
-use Rattle.bundle.specs.declared.Stock.TheVariants.{Left, Refused}
+use Rattle.prelude.specs.Causes as causes
+use Rattle.prelude.specs.declared.refusal.Refusal.{Refusal}
+use Rattle.bundle.specs.declared.Shares.{Shares}
 
 -- the most sheets of a bundle, and the kind of its records
 abbrev pub most_sheets : ℕ
@@ -50,17 +49,27 @@ parts s = get_or (parts_from most_sheets s 0) []
 abbrev pub sheets : List ℕ → List (List ℕ)
 sheets s = map (sheet_in s) (parts s)
 
--- A SHEET'S OWN ANSWER: its smallest sum, which is that of the sizes of its answer; or the number and place with which it is refused, 11 where it has none
-abbrev pub smallest_of : Option Entry → Sizing
-smallest_of none = sizings.Refused 11 0
-smallest_of (some e) = sizings.Sized (sum e.sizes)
+-- what a sheet answers by itself: a sum, or a refusal's number and place
+pub data Alone : Type 0 where
+  sum_alone : ℕ → Alone
+  refused_alone : ℕ → ℕ → Alone
 
-abbrev pub smallest_read : Reading → Sizing
-smallest_read (refused n i) = sizings.Refused n i
+-- A SHEET'S OWN ANSWER: its smallest sum, which is that of the sizes of its answer; or the number and place with which it is refused, 11 where it has none
+abbrev pub smallest_of : Option Entry → Alone
+smallest_of none = refused_alone 11 0
+smallest_of (some e) = sum_alone (sum e.sizes)
+
+abbrev pub smallest_read : Reading → Alone
+smallest_read (refused n i) = refused_alone n i
 smallest_read (accepted sh) = smallest_of (answer sh)
 
-unfoldable pub smallest : List ℕ → Sizing
+unfoldable pub smallest : List ℕ → Alone
 smallest sheet = smallest_read (reading sheet)
+
+-- the same as the question sizes gives it
+abbrev pub told : Alone → Result ℕ Refusal
+told (sum_alone n) = Ok n
+told (refused_alone n i) = Err (causes.refusal n i)
 
 -- what becomes of the sheets: one is turned down, its place counted from the bundle's start, or each has its sum
 pub data Outcome : Type 0 where
@@ -68,14 +77,24 @@ pub data Outcome : Type 0 where
   summed : List ℕ → Outcome
 
 -- of a sheet that starts there, with this answer of its own, and of the sheets behind it: the first that is refused decides
-abbrev pub joined : ℕ → Sizing → Outcome → Outcome
-joined start (sizings.Refused n i) rest = turned_down n (start + i)
-joined start (sizings.Sized k) (turned_down n i) = turned_down n i
-joined start (sizings.Sized k) (summed sums) = summed (k ∷ sums)
+abbrev pub joined : ℕ → Alone → Outcome → Outcome
+joined start (refused_alone n i) rest = turned_down n (start + i)
+joined start (sum_alone k) (turned_down n i) = turned_down n i
+joined start (sum_alone k) (summed sums) = summed (k ∷ sums)
 
 unfoldable pub summing : List ℕ → List Part → Outcome
 summing s [] = summed []
 summing s (p ∷ ps) = joined p.start (smallest (sheet_in s p)) (summing s ps)
+
+-- What becomes of the board's stock of codes: what is left of the limit, or the refusal's number and place; and with the sums of the sheets, 0 in unused
+-- places and where the call is turned down.
+pub data Stock : Type 0 where
+  Left : ℕ → Stock
+  Refused : ℕ → ℕ → Stock
+
+pub record Bundling : Type 0 where
+  pub sums : List ℕ
+  pub stock : Stock
 
 -- a call that is turned down: eight zeros, number and place
 abbrev pub refusal : ℕ → ℕ → Bundling
@@ -95,6 +114,14 @@ abbrev pub consider : List ℕ → ℕ → List Part → Bundling
 consider s limit [] = refusal 18 0
 consider s limit (p ∷ ps) = gives limit (summing s (p ∷ ps))
 
--- THE RESULT, from the bundle's bytes and the limit
+-- what becomes of the call, from the bundle's bytes and the limit
 unfoldable pub bundling : List ℕ → ℕ → Bundling
 bundling s limit = consider s limit (parts s)
+
+-- THE RESULT: the sums and what is left, or the refusal
+abbrev pub shared_out : List ℕ → Stock → Result Shares Refusal
+shared_out sums (Left left) = Ok (record { sums = sums; left = left })
+shared_out sums (Refused n i) = Err (causes.refusal n i)
+
+abbrev pub answered : Bundling → Result Shares Refusal
+answered b = shared_out b.sums b.stock

@@ -9,9 +9,7 @@ use Rattle.logic.specs.Order.{sum_of}
 use Rattle.layout.specs.Layout.{accepted, refused, reading}
 use Rattle.answer.specs.Answer.{sum}
 use Rattle.answer.specs.Demand.{Hopeless}
-use Rattle.bundle.specs.Bundle.{Part, most_sheets, sheet_in, parts, bundling}
-use Rattle.bundle.specs.declared.Stock.{Stock}
-use Rattle.bundle.specs.declared.Stock.TheVariants.{Left, Refused}
+use Rattle.bundle.specs.Bundle.{Part, most_sheets, sheet_in, parts, bundling, Stock, Left, Refused}
 
 -- part k of a list of parts, an empty one past its end; sheet k of a bundle
 abbrev pub part_at : List Part → ℕ → Part

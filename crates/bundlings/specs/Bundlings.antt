@@ -1,22 +1,19 @@
 -- Interface. What ask prints for a line that asks bundle (docs/FORMAT.md, "Asking line by line").
-use Rattle.std.specs.Prelude.{ℕ, List}
+use Rattle.std.specs.Prelude.{ℕ, List, Result, Ok, Err}
+use Rattle.prelude.specs.Causes.{number_of}
+use Rattle.prelude.specs.declared.refusal.Refusal.{Refusal}
 use Rattle.text.specs.Ascii.{ascii}
 use Rattle.text.specs.Text.{sums_line}
-use Rattle.bundle.specs.Bundle.{bundling}
-use Rattle.bundle.specs.declared.Bundling.{Bundling}
-use Rattle.bundle.specs.declared.Stock.{Stock}
-use Rattle.bundle.specs.declared.Stock.TheVariants.{Left, Refused}
+use Rattle.bundle.specs.Bundle.{bundling, answered}
+use Rattle.bundle.specs.declared.Shares.{Shares}
 use Rattle.lines.specs.Lines.{refusal_line}
 use Rattle.questions.specs.Questions.{bytes_at, number_at, unless_wrong}
 
 -- the answer line of bundle
-abbrev pub stock_line : List ℕ → Stock → List ℕ
-stock_line sums (Left left) = sums_line sums left
-stock_line sums (Refused number place) = refusal_line number place
-
-abbrev pub bundling_line : Bundling → List ℕ
-bundling_line answer = stock_line answer.sums answer.stock
+abbrev pub bundling_line : Result Shares Refusal → List ℕ
+bundling_line (Ok shares) = sums_line shares.sums shares.left
+bundling_line (Err r) = refusal_line (number_of r.cause) r.place
 
 -- bundle BUNDLE LIMIT
 unfoldable pub bundle_reply : List ℕ → List ℕ
-bundle_reply line = unless_wrong (ascii "bl") line (bundling_line (bundling (bytes_at line 1) (number_at line 2)))
+bundle_reply line = unless_wrong (ascii "bl") line (bundling_line (answered (bundling (bytes_at line 1) (number_at line 2))))

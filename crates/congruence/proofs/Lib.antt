@@ -1,3 +1,4 @@
+pub mod Keys
 pub mod Replacing
 pub mod Labels
 pub mod Sweeps

@@ -1,7 +1,6 @@
 -- Labels replaced one after the other, from the front.
 use Prim.Native.Nat.{ℕ, ◌≤◌, ◌<◌, ◌+◌}
 use native.Mathlib.Omega.{arith}
-use native.Mathlib.Decide.{dec_lt}
 use mathlib.Core.Path.{◌≡◌, refl, sym, ◌∙◌}
 use mathlib.Core.List.{List, map}
 use lib.ListN.{length, set, length-set, length-map}
@@ -27,19 +26,6 @@ module _ (f : ℕ → ℕ) (old : List ℕ) (k : ℕ) (new : List ℕ) (so : Rep
         long = length-set new k v ∙ long;
         done = filled_more f new k v (omega arith) e so.done;
         rest = λ m big. at_set_other new k v m (λ x. absurd (omega arith)) ∙ so.rest m (omega arith);
-      }
-
-  -- the place k is left as it is
-  pub replaced_kept : at new k ≡ f k → Replaced f old (k + 1) new
-  replaced_kept e =
-      record {
-        long = so.long;
-        done = λ m small.
-            elim (dec_lt m k) [
-              | yes h ↦ so.done m h
-              | no h ↦ let eq : m ≡ k = omega arith in rw eq e
-            ];
-        rest = λ m big. so.rest m (omega arith);
       }
 
 pub replaced_map : (f : ℕ → ℕ) (old new : List ℕ) → length old ≡ 128 → Replaced (λ m. f (at old m)) old 128 new → new ≡ map f old

@@ -13,7 +13,7 @@ use layout::Parsed;
 use prelude::{MOST_TERMS, own_numbers, wide};
 
 // A symbol with the labels of its two arguments: terms with one key have equal codes.
-#[derive(Clone, Copy)]
+#[derive(Clone, Copy, PartialEq, Eq)]
 pub(crate) struct Key {
     pub symbol: u8,
     pub first: u8,
@@ -37,15 +37,13 @@ fn stated(p: Parsed, labels: [u8; MOST_TERMS]) -> [u8; MOST_TERMS]
 {
     let mut out = labels;
     let literals = p.literals;
-    let mut k: usize = 0;
-    while k < literals {
+    for k in 0..literals {
         if p.equal[k] == 1 {
             let left = wide(p.left[k]);
             let right = wide(p.right[k]);
             let next = joined(out, left, right);
             out = next;
         }
-        k += 1;
     }
     out
 }
@@ -72,12 +70,10 @@ fn sweep(p: Parsed, labels: [u8; MOST_TERMS]) -> [u8; MOST_TERMS]
 {
     let mut out = labels;
     let terms = p.terms;
-    let mut j: usize = 0;
-    while j < terms {
+    for j in 0..terms {
         let t = twin(p, out, j);
         let next = joined(out, t, j);
         out = next;
-        j += 1;
     }
     out
 }
@@ -89,13 +85,11 @@ fn twin(p: Parsed, labels: [u8; MOST_TERMS], j: usize) -> usize
 {
     let terms = p.terms;
     let goal = key_of(&labels, terms, p.symbol[j], p.arg0[j], p.arg1[j]);
-    let mut i: usize = 0;
-    while i < j {
+    for i in 0..j {
         let here = key_of(&labels, terms, p.symbol[i], p.arg0[i], p.arg1[i]);
-        if same_key(here, goal) {
+        if here == goal {
             return i;
         }
-        i += 1;
     }
     j
 }
@@ -112,19 +106,6 @@ fn key_of(labels: &[u8; MOST_TERMS], terms: usize, f: u8, a: u8, b: u8) -> Key
         first,
         second,
     }
-}
-
-// Whether two keys are one.
-fn same_key(x: Key, y: Key) -> bool
-    ensures { (result ≡ true → x ≡ y) × (result ≡ false → x ≡ y → ⊥) }
-{
-    if x.symbol != y.symbol {
-        return false;
-    }
-    if x.first != y.first {
-        return false;
-    }
-    x.second == y.second
 }
 
 // The label of an argument; a missing one stands for itself.
@@ -157,14 +138,17 @@ fn merged(labels: [u8; MOST_TERMS], lo: u8, hi: u8) -> [u8; MOST_TERMS]
     ensures { result ≡ map (relabel lo hi) labels }
 {
     let mut out = labels;
-    let mut k: usize = 0;
-    while k < MOST_TERMS {
-        if out[k] == hi {
-            out[k] = lo;
-        }
-        k += 1;
+    for label in &mut out {
+        *label = relabelled(*label, lo, hi);
     }
     out
+}
+
+// A label where all terms of the label hi take the label lo.
+fn relabelled(label: u8, lo: u8, hi: u8) -> u8
+    ensures { result ≡ relabel lo hi label }
+{
+    if label == hi { lo } else { label }
 }
 
 // The sum of the labels; it falls whenever groups become one.
@@ -172,10 +156,8 @@ fn weight(labels: [u8; MOST_TERMS]) -> usize
     ensures { result ≡ sum_to most_terms (at labels) }
 {
     let mut sum: usize = 0;
-    let mut k: usize = 0;
-    while k < MOST_TERMS {
-        sum += wide(labels[k]);
-        k += 1;
+    for label in &labels {
+        sum += wide(*label);
     }
     sum
 }

@@ -16,6 +16,7 @@ use prelude::{BYTE_VALUES, MOST_CODES, MOST_SORTS, wide};
 use tables::{agrees, cell_of, with_cell};
 
 // Stands in a cell that holds no code yet.
+// Kept: a number and not an Option, and the table by value below: a form that the customer names (docs/DECISIONS.md, "Where each named form stands").
 const EMPTY: u8 = 255;
 
 // Whether codes are consistent: in range, meeting every statement, and congruent, symbol by symbol.
@@ -31,12 +32,10 @@ pub fn consistent(p: Parsed, sizes: [u8; MOST_SORTS], codes: [u8; BYTE_VALUES]) 
     if !hold(p, codes) {
         return false;
     }
-    let mut f: usize = 0;
-    while f < p.symbols {
+    for f in 0..p.symbols {
         if !functional(p, codes, f) {
             return false;
         }
-        f += 1;
     }
     true
 }
@@ -54,13 +53,11 @@ fn in_range(p: Parsed, sizes: [u8; MOST_SORTS], codes: [u8; BYTE_VALUES]) -> boo
     requires { Searchable p }
     ensures { Decides result (InRange (view p) (at sizes) (at codes)) }
 {
-    let mut i: usize = 0;
-    while i < p.terms {
+    for i in 0..p.terms {
         let s = wide(p.sort[i]);
         if sizes[s] <= codes[i] {
             return false;
         }
-        i += 1;
     }
     true
 }
@@ -70,14 +67,12 @@ fn hold(p: Parsed, codes: [u8; BYTE_VALUES]) -> bool
     requires { Searchable p }
     ensures { Decides result (Hold (view p) (at codes)) }
 {
-    let mut k: usize = 0;
-    while k < p.literals {
+    for k in 0..p.literals {
         let left = wide(p.left[k]);
         let right = wide(p.right[k]);
         if !agrees(p.equal[k], codes[left], codes[right]) {
             return false;
         }
-        k += 1;
     }
     true
 }
@@ -89,8 +84,7 @@ fn functional(p: Parsed, codes: [u8; BYTE_VALUES], symbol: usize) -> bool
     ensures { Decides result (Functional (view p) (at codes) symbol) }
 {
     let mut t = [[EMPTY; MOST_CODES]; MOST_CODES];
-    let mut i: usize = 0;
-    while i < p.terms {
+    for i in 0..p.terms {
         if wide(p.symbol[i]) == symbol {
             let row = code_of(codes, p.arg0[i]);
             let col = code_of(codes, p.arg1[i]);
@@ -103,7 +97,6 @@ fn functional(p: Parsed, codes: [u8; BYTE_VALUES], symbol: usize) -> bool
                 return false;
             }
         }
-        i += 1;
     }
     true
 }

@@ -1,9 +1,10 @@
 -- For the proofs only. The records of a parsed sheet, by its arrays.
-use Rattle.std.specs.Prelude.{ℕ, cond, List, [], ◌∷◌, ◌++◌, eqb}
+use Rattle.std.specs.Prelude.{ℕ, ◌<◌, ◌≡◌, cond, List, [], ◌∷◌, ◌++◌, eqb}
 use Rattle.prelude.specs.Limits.{missing}
 use Rattle.prelude.specs.Lists.{at, collect}
 use Rattle.layout.specs.Encode.{packet, total_bytes}
 use Rattle.layout.specs.declared.Parsed.{Parsed}
+use Rattle.encoder.specs.declared.Record.{Record}
 
 -- those of two parameters or arguments that are there
 unfoldable pub there : ℕ → ℕ → List ℕ
@@ -12,6 +13,13 @@ there a b = cond (eqb a missing) [] (a ∷ cond (eqb b missing) [] (b ∷ []))
 -- a record of at most three payload bytes, of which the second and the third may be missing
 unfoldable pub short_record : ℕ → ℕ → ℕ → ℕ → List ℕ
 short_record kind b0 b1 b2 = packet kind (b0 ∷ there b1 b2)
+
+abbrev pub record_bytes : Record → List ℕ
+record_bytes r = short_record r.kind r.b0 r.b1 r.b2
+
+-- each record that a function gives for a number below n has these bytes
+abbrev pub Gives : (ℕ → Record → Type 0) → ℕ → (ℕ → List ℕ) → Type 0
+Gives post n bytes = (i : ℕ) (r : Record) → i < n → post i r → record_bytes r ≡ bytes i
 
 -- the record with a number, of the sorts, the symbols, the terms, the literals
 abbrev pub sort_record : Parsed → ℕ → List ℕ

@@ -1,7 +1,7 @@
 // Writes a sheet without fills from its parsed form: the records in the layout's order, in front of the caller's buffer.
 #![tactic(auto)]
 
-ghost use Rattle.std.specs.Prelude.{◌≡◌, cond, ◌+◌, ◌≤◌, eqb, length};
+ghost use Rattle.std.specs.Prelude.{◌≡◌, cond, ℕ, ◌+◌, ◌≤◌, ◌<◌, List, eqb, length};
 ghost use Rattle.prelude.specs.Limits.{most_sorts, most_symbols, most_terms, most_literals, most_total, most_written_bytes};
 ghost use Rattle.prelude.specs.Lists.{collect};
 ghost use Rattle.logic.specs.Sheet.{Sheet};
@@ -9,77 +9,82 @@ ghost use Rattle.layout.specs.Encode.{total_bytes};
 ghost use Rattle.tables.specs.Parts.{Packs};
 ghost use Rattle.encoder.specs.SheetWritten.{Stands, SheetWritten};
 ghost use Rattle.prelude.specs.Pasted.{Wrote};
-ghost use Rattle.encoder.specs.Parts.{there, short_record, sort_record, symbol_record, term_record, literal_record};
+ghost use Rattle.encoder.specs.Parts.{there, record_bytes, Gives};
 
 use layout::Parsed;
-use prelude::{MISSING, wide};
+use prelude::{MISSING, copy, wide};
+
+// A record of at most three payload bytes. A second or third one that is MISSING is not there.
+#[derive(Clone, Copy)]
+pub(crate) struct Record {
+    pub kind: u8,
+    pub b0: u8,
+    pub b1: u8,
+    pub b2: u8,
+}
 
 // Writes a sheet without fills in front of the buffer, record by record, and gives its length.
 pub fn write_sheet(p: Parsed, out: &mut [u8]) -> usize
     requires { Stands p × (p.fills ≡ 0) × (most_written_bytes ≤ length out.old) }
     ensures { (sh : Sheet) → Packs sh p → SheetWritten sh out.old out.new result }
 {
-    let sorts = write_sorts(p, out, 0);
-    let symbols = write_symbols(p, out, sorts);
-    let terms = write_terms(p, out, symbols);
-    let literals = write_literals(p, out, terms);
+    let sorts = write_records(
+        out,
+        0,
+        p.sorts,
+        |s| Record {
+            kind: 1,
+            b0: p.floor[s],
+            b1: p.ceiling[s],
+            b2: MISSING,
+        },
+    );
+    let symbols = write_records(
+        out,
+        sorts,
+        p.symbols,
+        |f| Record {
+            kind: 2,
+            b0: p.result[f],
+            b1: p.param0[f],
+            b2: p.param1[f],
+        },
+    );
+    let terms = write_records(
+        out,
+        symbols,
+        p.terms,
+        |i| Record {
+            kind: 3,
+            b0: p.symbol[i],
+            b1: p.arg0[i],
+            b2: p.arg1[i],
+        },
+    );
+    let literals = write_records(
+        out,
+        terms,
+        p.literals,
+        |k| Record {
+            kind: statement_kind(p.equal[k]),
+            b0: p.left[k],
+            b1: p.right[k],
+            b2: MISSING,
+        },
+    );
     write_total(p, out, literals)
 }
 
-// Each of these writes the records of one kind from a place on, and gives the place behind them.
-fn write_sorts(p: Parsed, out: &mut [u8], start: usize) -> usize
-    requires { (p.sorts ≤ most_sorts) × (start + length (collect p.sorts (sort_record p)) ≤ length out.old) }
-    ensures { Wrote out.old start (collect p.sorts (sort_record p)) out.new result }
+// Writes a record for each number below n from a place on, and gives the place behind them.
+fn write_records<F: Fn(usize) -> Record>(out: &mut [u8], start: usize, n: usize, make: F) -> usize
+    requires callable { (i : ℕ) → i < n → F.pre make i }
+    requires fit { (bytes : ℕ → List ℕ) × Gives (F.post make) n bytes × (start + length (collect n bytes) ≤ length out.old) }
+    ensures { (bytes : ℕ → List ℕ) → Gives (F.post make) n bytes → Wrote out.old start (collect n bytes) out.new result }
 {
-    let n = p.sorts;
     let mut end = start;
-    let mut s: usize = 0;
-    while s < n {
-        end = write_record(out, end, 1, p.floor[s], p.ceiling[s], MISSING);
-        s += 1;
-    }
-    end
-}
-
-fn write_symbols(p: Parsed, out: &mut [u8], start: usize) -> usize
-    requires { (p.symbols ≤ most_symbols) × (start + length (collect p.symbols (symbol_record p)) ≤ length out.old) }
-    ensures { Wrote out.old start (collect p.symbols (symbol_record p)) out.new result }
-{
-    let n = p.symbols;
-    let mut end = start;
-    let mut f: usize = 0;
-    while f < n {
-        end = write_record(out, end, 2, p.result[f], p.param0[f], p.param1[f]);
-        f += 1;
-    }
-    end
-}
-
-fn write_terms(p: Parsed, out: &mut [u8], start: usize) -> usize
-    requires { (p.terms ≤ most_terms) × (start + length (collect p.terms (term_record p)) ≤ length out.old) }
-    ensures { Wrote out.old start (collect p.terms (term_record p)) out.new result }
-{
-    let n = p.terms;
-    let mut end = start;
-    let mut i: usize = 0;
-    while i < n {
-        end = write_record(out, end, 3, p.symbol[i], p.arg0[i], p.arg1[i]);
-        i += 1;
-    }
-    end
-}
-
-fn write_literals(p: Parsed, out: &mut [u8], start: usize) -> usize
-    requires { (p.literals ≤ most_literals) × (start + length (collect p.literals (literal_record p)) ≤ length out.old) }
-    ensures { Wrote out.old start (collect p.literals (literal_record p)) out.new result }
-{
-    let n = p.literals;
-    let mut end = start;
-    let mut k: usize = 0;
-    while k < n {
-        let kind = statement_kind(p.equal[k]);
-        end = write_record(out, end, kind, p.left[k], p.right[k], MISSING);
-        k += 1;
+    for i in 0..n {
+        let next = make(i);
+        end = write_record(out, end, next);
     }
     end
 }
@@ -93,10 +98,17 @@ fn write_total(p: Parsed, out: &mut [u8], start: usize) -> usize
     if total == 0 {
         return start;
     }
-    write_record(out, start, 6, total as u8, MISSING, MISSING)
+    let r = Record {
+        kind: 6,
+        b0: total as u8,
+        b1: MISSING,
+        b2: MISSING,
+    };
+    write_record(out, start, r)
 }
 
 // The kind of a statement's record: 1 says same, 0 says differ.
+// Kept: a number, since kinds are bytes of the format, and the edit `differ_written_as_same` changes one.
 fn statement_kind(equal: u8) -> u8
     ensures { result ≡ cond (eqb equal 1) 4 5 }
 {
@@ -106,20 +118,17 @@ fn statement_kind(equal: u8) -> u8
     5
 }
 
-// Writes one record at a place, and gives the place behind it. A second or third payload byte that is MISSING is not there.
-fn write_record(out: &mut [u8], start: usize, kind: u8, b0: u8, b1: u8, b2: u8) -> usize
-    requires { start + length (short_record kind b0 b1 b2) ≤ length out.old }
-    ensures { Wrote out.old start (short_record kind b0 b1 b2) out.new result }
+// Writes one record at a place, and gives the place behind it.
+fn write_record(out: &mut [u8], start: usize, r: Record) -> usize
+    requires { start + length (record_bytes r) ≤ length out.old }
+    ensures { Wrote out.old start (record_bytes r) out.new result }
 {
-    let len = payload_length(b1, b2);
-    let bytes = [len, 0u8, kind, 0u8, b0, b1, b2];
+    let len = payload_length(r.b1, r.b2);
+    let bytes = [len, 0u8, r.kind, 0u8, r.b0, r.b1, r.b2];
     let n = wide(len) + 4;
-    let mut k: usize = 0;
-    while k < n {
-        out[start + k] = bytes[k];
-        k += 1;
-    }
-    start + n
+    let end = start + n;
+    copy(&bytes[..n], &mut out[start..end]);
+    end
 }
 
 // How many bytes a payload has.

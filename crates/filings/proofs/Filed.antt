@@ -4,10 +4,13 @@ use native.Mathlib.Omega.{arith}
 use mathlib.Core.Path.{◌≡◌, refl, sym, ap, ap₂, ◌∙◌}
 use mathlib.Core.List.{List}
 use lib.ListN.{length, take}
+use Rattle.std.specs.Prelude.{Result, Ok, Err}
+use Rattle.prelude.specs.Causes.{number_of, refusal}
+use Rattle.prelude.specs.declared.refusal.Refusal.{Refusal}
 use Rattle.logic.specs.Sheet.{Sheet}
 use Rattle.layout.specs.Encode.{encode}
 use Rattle.fitted.specs.Filing.{Filing, turned_down, filed, outcome, fits, fitting, buffer_after}
-use Rattle.fitted.specs.declared.Fitting.TheVariants.{Written, Refused}
+use Rattle.fitted.proofs.Filed.{turned_down_known}
 use Rattle.fitted.proofs.Rooms.{written_front, written_fits}
 use Rattle.text.specs.Ascii.{ascii}
 use Rattle.text.specs.Text.{bytes_line}
@@ -15,21 +18,24 @@ use Rattle.lines.specs.Lines.{refusal_line}
 use Rattle.filings.specs.Filings.{fitted_line}
 
 -- the line of a call that was turned down
-pub turned_down_line : (s : List ℕ) (room n i : ℕ) → fitting s room ≡ Refused n i → fitted_line (outcome s room) ≡ refusal_line n i
+pub turned_down_line : (s : List ℕ) (room : ℕ) (r : Refusal) → Err r ≡ fitting s room → refusal_line (number_of r.cause) r.place ≡ fitted_line (outcome s room)
 unfolding fitting
-turned_down_line s room n i f = step (outcome s room) f
+turned_down_line s room r f = step (outcome s room) refl
   where
-    step : (o : Filing) → fits o ≡ Refused n i → fitted_line o ≡ refusal_line n i
-    step (turned_down m j) q = ap₂ refusal_line (cc) (cc)
-    step (filed new) q = let z : ◌≡◌ {A = ℕ} 0 1 = cc in absurd (omega arith)
+    step : (o : Filing) → outcome s room ≡ o → refusal_line (number_of r.cause) r.place ≡ fitted_line (outcome s room)
+    step (turned_down m j) o =
+        let z : ◌≡◌ {A = Result ℕ Refusal} (Err r) (Err (refusal m j)) = f ∙ ap fits o in
+        let same : r ≡ refusal m j = cc in
+        ap (λ (q : Refusal). refusal_line (number_of q.cause) q.place) same ∙ ap (λ (n : ℕ). refusal_line n j) (turned_down_known s room m j o) ∙ ap fitted_line (sym o)
+    step (filed new) o = let z : ◌≡◌ {A = Result ℕ Refusal} (Err r) (Ok (length (encode new))) = f ∙ ap fits o in cc
 
 -- the sheet that was filed stands in front of the buffer, and the line shows it
-module _ (s d d' : List ℕ) (n : ℕ) (f : fitting s (length d) ≡ Written n) (after : d' ≡ buffer_after s d) where
+module _ (s d d' : List ℕ) (n : ℕ) (f : fitting s (length d) ≡ Ok n) (after : d' ≡ buffer_after s d) where
   is : (new : Sheet) × (outcome s (length d) ≡ filed new) × (length (encode new) ≡ n)
   unfolding fitting
   is = step (outcome s (length d)) refl f
     where
-      step : (o : Filing) → outcome s (length d) ≡ o → fits o ≡ Written n → (new : Sheet) × (outcome s (length d) ≡ filed new) × (length (encode new) ≡ n)
+      step : (o : Filing) → outcome s (length d) ≡ o → fits o ≡ Ok n → (new : Sheet) × (outcome s (length d) ≡ filed new) × (length (encode new) ≡ n)
       step (turned_down m j) q g = let z : ◌≡◌ {A = ℕ} 0 1 = cc in absurd (omega arith)
       step (filed new) q g = (new, q, cc)
 

@@ -9,19 +9,17 @@ ghost use Rattle.fitted.specs.Filing.{outcome};
 ghost use Rattle.questions.specs.Questions.{answer_room};
 ghost use Rattle.filings.specs.Filings.{fitted_line, fitted_reply};
 
-use fitted::Fitting;
-use lines::complaint_line;
-use prelude::{MOST_WRITTEN_BYTES, lesser, wide};
+use lines::{complaint_line, refusal_line};
+use prelude::{MOST_WRITTEN_BYTES, lesser};
 use questions::MOST_DECODED;
-use words::{decode, is_wrong, number, word, wrong_with};
+use words::{decode, number, word, wrong_with};
 
 // fitted SHEET BUFLEN
 pub fn fitted_question(line: &[u8], out: &mut [u8]) -> usize
     requires { (length line.now ≤ 262144) × (answer_room ≤ length out.old) }
     ensures { Wrote out.old 0 (fitted_reply line.now) out.new result }
 {
-    let wrong = wrong_with(line, b"bn");
-    if is_wrong(wrong) {
+    if let Err(wrong) = wrong_with(line, b"bn") {
         return complaint_line(out, wrong);
     }
     let mut sheet = [0u8; MOST_DECODED];
@@ -47,7 +45,7 @@ fn fitted_into(sheet: &[u8], buffer: &mut [u8], out: &mut [u8]) -> usize
 {
     let answer = fitted::fitted(sheet, buffer);
     match answer {
-        Fitting::Refused { number, place } => text::refused_line(out, wide(number), place),
-        Fitting::Written { length } => text::bytes_line(out, b"sheet", length, &buffer[..length]),
+        Ok(length) => text::bytes_line(out, b"sheet", length, &buffer[..length]),
+        Err(refusal) => refusal_line(out, refusal),
     }
 }

@@ -18,14 +18,14 @@ use Rattle.tables.proofs.Offsets.{offset_same}
 use Rattle.tables.proofs.Longest.{few_cells}
 use Rattle.sheet.specs.Verdict.{ReadFrom}
 use Rattle.finder.specs.Find.{Finds}
-use Rattle.find_at.specs.declared.Finding.{Finding}
-use Rattle.find_at.specs.declared.Finding.TheVariants.{Found}
+use Rattle.std.specs.Prelude.{Result, Ok}
+use Rattle.prelude.specs.declared.refusal.Refusal.{Refusal}
 use Rattle.judge.proofs.Questions.{read_packs}
 use Rattle.finder.proofs.Delivery.{found_whole}
 use Rattle.find.specs.Parts.{Printable, Stretches}
 
 -- what find found and wrote
-pub found_printable : (p : Parsed) (q : ReadFrom p) (cs ts cs' ts' : List ℕ) (r : Finding) (sum : ℕ) → Finds q.bytes cs ts cs' ts' r → r ≡ Found sum → Printable p ts'
+pub found_printable : (p : Parsed) (q : ReadFrom p) (cs ts cs' ts' : List ℕ) (r : Result ℕ Refusal) (sum : ℕ) → Finds q.bytes cs ts cs' ts' r → r ≡ Ok sum → Printable p ts'
 found_printable p q cs ts cs' ts' r sum f e =
     let whole = found_whole q.bytes cs ts q.sheet sum q.reads (sym f.result ∙ e) in
     rw f.tables (record { sheet = q.sheet; packs = read_packs p q; sizes = whole.0; room = whole.1 })

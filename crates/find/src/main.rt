@@ -2,13 +2,16 @@
 // says on standard error when standard input cannot be read or standard output cannot be written.
 #![tactic(auto)]
 
-ghost use Rattle.std.specs.Prelude.{◌≤◌, length};
+ghost use Rattle.std.specs.Prelude.{◌≤◌, IfOk, length};
 ghost use Rattle.prelude.specs.Limits.{most_symbols};
+ghost use Rattle.sheet.specs.Verdict.{ReadFrom};
 ghost use Rattle.find.specs.Parts.{Printable, Stretches};
 
-use find_at::{Finding, MOST_TABLES};
+use find_at::MOST_TABLES;
 use layout::Parsed;
+use prelude::refusal::Refusal;
 use prelude::{MOST_SYMBOLS, MOST_TERMS, wide};
+use std::io;
 use std::io::{Read, Write};
 
 // One byte more than a sheet may have, so that a longer one is refused.
@@ -16,13 +19,6 @@ const MOST_INPUT: usize = 4097;
 
 // Room for the longest line, that of a table of 256 cells.
 const MOST_LINE: usize = 2048;
-
-// What was read: how many bytes stand in front of the buffer, and whether no read failed.
-#[derive(Clone, Copy)]
-struct Input {
-    len: usize,
-    whole: bool,
-}
 
 fn main(rt: HostRuntime) {
     let mut buffer = [0u8; MOST_INPUT];
@@ -32,60 +28,61 @@ fn main(rt: HostRuntime) {
     let mut input = rt.stdin();
     let mut out = rt.stdout();
     let mut errors = rt.stderr();
-    let read = read_input(&mut input, &mut buffer);
-    if !read.whole {
-        say(&mut errors, b"find: cannot read standard input\n");
+    let Ok(n) = read_input(&mut input, &mut buffer) else {
+        let _ = errors.write_all(b"find: cannot read standard input\n");
         return;
-    }
-    let n = read.len;
-    if !answer(&mut out, &buffer[..n], &mut codes, &mut tables, &mut line) {
-        say(&mut errors, b"find: cannot write standard output\n");
+    };
+    if answer(&mut out, &buffer[..n], &mut codes, &mut tables, &mut line).is_err() {
+        let _ = errors.write_all(b"find: cannot write standard output\n");
     }
 }
 
-// Reads standard input until the buffer is full, the input ends or a read fails.
-fn read_input<R: Read>(input: &mut R, buffer: &mut [u8]) -> Input
-    ensures { result.len ≤ length buffer.new }
+// Reads standard input until the buffer is full or the input ends: how many bytes stand in front of the buffer.
+fn read_input<R: Read>(input: &mut R, buffer: &mut [u8]) -> io::Result<usize>
+    ensures { IfOk result (λ len. len ≤ length buffer.new) }
 {
     let mut len: usize = 0;
+    // Kept: each read says how far it came, no index is counted.
     while len < buffer.len() {
-        let Ok(more) = input.read(&mut buffer[len..]) else {
-            return Input { len, whole: false };
-        };
+        let more = input.read(&mut buffer[len..])?;
         if more == 0 {
-            return Input { len, whole: true };
+            return Ok(len);
         }
         len += more;
     }
-    Input { len, whole: true }
+    Ok(len)
 }
 
-// Writes bytes, and gives back whether all were written.
-fn say<W: Write>(out: &mut W, bytes: &[u8]) -> bool {
-    out.write_all(bytes).is_ok()
-}
-
-// Finds, and prints what was found; the buffers are lent by the caller. Like each function below, it gives back whether all was written.
+// Finds, and prints what was found; the buffers are lent by the caller. Like each function below, it stops at the first write that fails.
 fn answer<W: Write>(
     out: &mut W,
     sheet: &[u8],
     codes: &mut [u8],
     tables: &mut [u8],
     line: &mut [u8],
-) -> bool
+) -> io::Result<()>
     requires { 2048 ≤ length line.old }
 {
-    let parsing = sheet::parse(sheet);
-    let number = parsing.number;
-    let place = parsing.place;
-    if number != 0 {
-        return print_refusal(out, number, place, line);
+    match sheet::parse(sheet) {
+        Ok(p) => answer_parsed(out, p, codes, tables, line),
+        Err(refusal) => print_refusal(out, refusal, line),
     }
-    let p = parsing.sheet;
-    let found = finder::in_turn(p, codes, tables);
-    match found {
-        Finding::Refused { number, place } => print_refusal(out, number, place, line),
-        Finding::Found { sum } => print_answer(out, p, sum, tables, line),
+}
+
+// Finds for a sheet that has been parsed, and prints what was found.
+fn answer_parsed<W: Write>(
+    out: &mut W,
+    p: Parsed,
+    codes: &mut [u8],
+    tables: &mut [u8],
+    line: &mut [u8],
+) -> io::Result<()>
+    requires read { ReadFrom p }
+    requires in_bounds { 2048 ≤ length line.old }
+{
+    match finder::in_turn(p, codes, tables) {
+        Ok(sum) => print_answer(out, p, sum, tables, line),
+        Err(refusal) => print_refusal(out, refusal, line),
     }
 }
 
@@ -96,37 +93,29 @@ fn print_answer<W: Write>(
     sum: usize,
     buffer: &[u8],
     line: &mut [u8],
-) -> bool
+) -> io::Result<()>
     requires printable { Printable p buffer.now }
     requires in_bounds { 2048 ≤ length line.old }
 {
     let k = text::found_line(line, sum);
-    if !print(out, line, k) {
-        return false;
-    }
+    out.write_all(&line[..k])?;
     let sorts = p.sorts;
-    if !print_sorts(out, sorts, buffer, line) {
-        return false;
-    }
+    print_sorts(out, &buffer[..sorts], line)?;
     let sizes = tables::sizes_of(sorts, buffer);
     let offsets = tables::extents(p, sizes);
     let symbols = p.symbols;
     print_symbols(out, symbols, offsets, buffer, line)
 }
 
-// Prints the size of each of n sorts.
-fn print_sorts<W: Write>(out: &mut W, n: usize, sizes: &[u8], line: &mut [u8]) -> bool
-    requires { (n ≤ length sizes.now) × (2048 ≤ length line.old) }
+// Prints the size of each sort.
+fn print_sorts<W: Write>(out: &mut W, sizes: &[u8], line: &mut [u8]) -> io::Result<()>
+    requires { 2048 ≤ length line.old }
 {
-    let mut s: usize = 0;
-    while s < n {
-        let k = text::sort_line(line, s, wide(sizes[s]));
-        if !print(out, line, k) {
-            return false;
-        }
-        s += 1;
+    for (s, size) in sizes.iter().enumerate() {
+        let k = text::sort_line(line, s, wide(*size));
+        out.write_all(&line[..k])?;
     }
-    true
+    Ok(())
 }
 
 // Prints the table of each of n symbols, which stands from its offset to the next.
@@ -136,35 +125,24 @@ fn print_symbols<W: Write>(
     offsets: [usize; MOST_SYMBOLS + 1],
     tables: &[u8],
     line: &mut [u8],
-) -> bool
+) -> io::Result<()>
     requires n_le_most_symbols { n ≤ most_symbols }
     requires stretches { Stretches offsets n (length tables.now) }
     requires in_bounds { 2048 ≤ length line.old }
 {
-    let mut f: usize = 0;
-    while f < n {
+    for f in 0..n {
         let start = offsets[f];
         let end = offsets[f + 1];
         let k = text::symbol_line(line, f, &tables[start..end]);
-        if !print(out, line, k) {
-            return false;
-        }
-        f += 1;
+        out.write_all(&line[..k])?;
     }
-    true
+    Ok(())
 }
 
 // Prints the line of a refusal.
-fn print_refusal<W: Write>(out: &mut W, number: u8, place: usize, line: &mut [u8]) -> bool
+fn print_refusal<W: Write>(out: &mut W, r: Refusal, line: &mut [u8]) -> io::Result<()>
     requires { 2048 ≤ length line.old }
 {
-    let k = text::refused_line(line, wide(number), place);
-    print(out, line, k)
-}
-
-// Prints the first k bytes of a line.
-fn print<W: Write>(out: &mut W, line: &[u8], k: usize) -> bool
-    requires { k ≤ length line.now }
-{
-    say(out, &line[..k])
+    let k = text::refused_line(line, wide(r.cause.number()), r.place);
+    out.write_all(&line[..k])
 }

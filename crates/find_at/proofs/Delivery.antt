@@ -7,6 +7,8 @@ use mathlib.Core.Logic.{inl, inr}
 use mathlib.Core.List.{List}
 use mathlib.Core.Option.{Option, none, some}
 use lib.ListN.{length, take, drop, length-append, get_or-append}
+use Rattle.std.specs.Prelude.{Ok, Err}
+use Rattle.prelude.specs.Causes.{refusal}
 use Rattle.prelude.specs.Lists.{at, fronted}
 use Rattle.logic.specs.Sheet.{Sheet}
 use Rattle.logic.specs.WellFormed.{WellFormed}
@@ -24,7 +26,6 @@ use Rattle.answer.proofs.Coincide.{coincide_answers_at, coincide_unforced, round
 use Rattle.find_at.specs.Found.{ceilings, answering}
 use Rattle.find_at.specs.FindAt.{finding_at, codes_after_at, tables_after_at}
 use Rattle.find_at.specs.Promise.{DeliveredAt, PromisedAt, codes_written, tables_written}
-use Rattle.find_at.specs.declared.Finding.TheVariants.{Found, Refused}
 use Rattle.find_at.proofs.Outcomes.{not_short, outcome_at_long}
 use Rattle.find_at.proofs.Buffers.{ExitAt, exit_at}
 
@@ -93,19 +94,19 @@ module _ (sh : Sheet) (w : WellFormed sh) (s z cs ts : List ℕ) (reads : readin
       (outcome_at_long s z (length cs) (length ts) sh reads (not_short sh (length cs) (length ts) codes_fit tables_fit) right a q)
 
   -- what was found is the answer at these sizes
-  found_is_at : (n : ℕ) → finding_at s z (length cs) (length ts) ≡ Found n → (e : Entry) × (answer_at sh z ≡ some e) × (sum e.sizes ≡ n)
+  found_is_at : (n : ℕ) → finding_at s z (length cs) (length ts) ≡ Ok n → (e : Entry) × (answer_at sh z ≡ some e) × (sum e.sizes ≡ n)
   found_is_at n f = step (answer_at sh z) refl
     where
       step : (a : Option Entry) → answer_at sh z ≡ a → (e : Entry) × (answer_at sh z ≡ some e) × (sum e.sizes ≡ n)
-      step none q = let r : Refused 11 0 ≡ Found n = sym (exits_at none q).result ∙ f in let y : ◌≡◌ {A = ℕ} 0 1 = cc in absurd (omega arith)
-      step (some e) q = (e, q, (let r : Found (sum e.sizes) ≡ Found n = sym (exits_at (some e) q).result ∙ f in cc))
+      step none q = let r : Err (refusal 11 0) ≡ Ok n = sym (exits_at none q).result ∙ f in cc
+      step (some e) q = (e, q, (let r : Ok (sum e.sizes) ≡ Ok n = sym (exits_at (some e) q).result ∙ f in cc))
 
-  refused_none_at : finding_at s z (length cs) (length ts) ≡ Refused 11 0 → answer_at sh z ≡ none
+  refused_none_at : finding_at s z (length cs) (length ts) ≡ Err (refusal 11 0) → answer_at sh z ≡ none
   refused_none_at f = step (answer_at sh z) refl
     where
       step : (a : Option Entry) → answer_at sh z ≡ a → answer_at sh z ≡ none
       step none q = q
-      step (some e) q = let r : Found (sum e.sizes) ≡ Refused 11 0 = sym (exits_at (some e) q).result ∙ f in let y : ◌≡◌ {A = ℕ} 0 1 = cc in absurd (omega arith)
+      step (some e) q = let r : Ok (sum e.sizes) ≡ Err (refusal 11 0) = sym (exits_at (some e) q).result ∙ f in cc
 
   module _ (e : Entry) (q : answer_at sh z ≡ some e) where
     answers : AnswersAt sh z e (structure_of sh e)

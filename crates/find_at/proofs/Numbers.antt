@@ -1,19 +1,21 @@
--- With which numbers a call of find_at is turned down, and that something is found only where no cause applies.
+-- With which causes a call of find_at is turned down, and that something is found only where no cause applies.
 use Prim.Native.Nat.{ℕ}
 use native.Mathlib.Omega.{arith}
-use mathlib.Core.Path.{◌≡◌, refl, ap, sym, ◌∙◌, subst}
+use mathlib.Core.Path.{◌≡◌, refl, ap, sym, ◌∙◌}
 use mathlib.Core.Bool.{Bool, true, false}
 use mathlib.Core.Logic.{◌⊎◌, inl, inr}
 use mathlib.Core.List.{List}
 use mathlib.Core.Option.{Option, none, some}
+use Rattle.std.specs.Prelude.{Result, Ok, Err}
+use Rattle.prelude.specs.Causes.{number_of, refusal}
+use Rattle.prelude.specs.declared.refusal.Refusal.{Refusal}
 use Rattle.logic.specs.Sheet.{Sheet}
 use Rattle.layout.specs.Layout.{Reading, accepted, refused, reading, InSheet}
-use Rattle.layout.proofs.Answers.{refused_number}
+use Rattle.sheet.proofs.Refusals.{refused_in_sheet}
 use Rattle.answer.specs.Answer.{Entry, answer_at, sum}
 use Rattle.answer.specs.Demand.{CandidateSizes}
 use Rattle.find_at.specs.Found.{turned_down, short, answering, finds}
 use Rattle.find_at.specs.FindAt.{candidate_sizes, outcome_at, finding_at}
-use Rattle.find_at.specs.declared.Finding.TheVariants.{Found, Refused}
 use Rattle.find_at.proofs.Sizes.{candidate_sizes_test}
 use Rattle.find_at.proofs.Outcomes.{outcome_at_refused, outcome_at_short, outcome_at_wrong, outcome_at_long}
 
@@ -41,13 +43,13 @@ case_of s z nc nt = by_reading (reading s) refl
     by_reading (refused n i) q = unread n i q (outcome_at_refused s z nc nt n i q)
     by_reading (accepted sh) q = by_room sh q (short sh nc nt) refl
 
-module _ (s z : List ℕ) (nc nt n i : ℕ) (e : finding_at s z nc nt ≡ Refused n i) where
+module _ (s z : List ℕ) (nc nt : ℕ) (r : Refusal) (e : finding_at s z nc nt ≡ Err r) where
   abbrev Listed : Type 0
-  Listed = InSheet n ⊎ (((n ≡ 10) ⊎ ((n ≡ 17) ⊎ (n ≡ 11))) × (i ≡ 0))
+  Listed = InSheet (number_of r.cause) ⊎ (((number_of r.cause ≡ 10) ⊎ ((number_of r.cause ≡ 17) ⊎ (number_of r.cause ≡ 11))) × (r.place ≡ 0))
 
-  pub numbers : (m j : ℕ) → outcome_at s z nc nt ≡ turned_down m j → (n ≡ m) × (i ≡ j)
+  same : (m j : ℕ) → outcome_at s z nc nt ≡ turned_down m j → r ≡ refusal m j
   unfolding finding_at
-  numbers m j q = let r : Refused n i ≡ Refused m j = sym e ∙ ap finds q in (cc, cc)
+  same m j q = let k : ◌≡◌ {A = Result ℕ Refusal} (Err r) (Err (refusal m j)) = sym e ∙ ap finds q in cc
 
   -- THEOREM: those of read, 10, 17 or 11, and the place is 0 from 10 on
   pub refusal_number_at : Listed
@@ -55,25 +57,22 @@ module _ (s z : List ℕ) (nc nt n i : ℕ) (e : finding_at s z nc nt ≡ Refuse
   refusal_number_at = by (case_of s z nc nt)
     where
       by_answer : (sh : Sheet) (a : Option Entry) → outcome_at s z nc nt ≡ answering sh a → Listed
-      by_answer sh none q = let y = numbers 11 0 q in inr (inr (inr y.0), y.1)
-      by_answer sh (some x) q =
-          let r : Refused n i ≡ Found (sum x.sizes) = sym e ∙ ap finds q in
-          let y : ◌≡◌ {A = ℕ} 0 1 = cc in
-          absurd (omega arith)
+      by_answer sh none q = rw (same 11 0 q) (inr (inr (inr refl), refl))
+      by_answer sh (some x) q = let k : ◌≡◌ {A = Result ℕ Refusal} (Err r) (Ok (sum x.sizes)) = sym e ∙ ap finds q in cc
 
       by : Case s z nc nt → Listed
-      by (unread m j q o) = let y = numbers m j o in inl (subst InSheet (sym y.0) (refused_number s m j q))
-      by (too_short sh q o) = let y = numbers 10 0 o in inr (inl y.0, y.1)
-      by (wrong_sizes_lem sh q w o) = let y = numbers 17 0 o in inr (inr (inl y.0), y.1)
-      by (looked sh q r right o) = by_answer sh (answer_at sh z) o
+      by (unread m j q o) = rw (same m j o) (inl (refused_in_sheet s m j q))
+      by (too_short sh q o) = rw (same 10 0 o) (inr (inl refl, refl))
+      by (wrong_sizes_lem sh q w o) = rw (same 17 0 o) (inr (inr (inl refl), refl))
+      by (looked sh q k right o) = by_answer sh (answer_at sh z) o
 
 -- something is found only where no cause applies
-pub found_through : (s z : List ℕ) (nc nt n : ℕ) (sh : Sheet) → reading s ≡ accepted sh → finding_at s z nc nt ≡ Found n → (short sh nc nt ≡ false) × CandidateSizes sh z
+pub found_through : (s z : List ℕ) (nc nt n : ℕ) (sh : Sheet) → reading s ≡ accepted sh → finding_at s z nc nt ≡ Ok n → (short sh nc nt ≡ false) × CandidateSizes sh z
 unfolding finding_at
 found_through s z nc nt n sh q f = by (case_of s z nc nt)
   where
     down : (m j : ℕ) → outcome_at s z nc nt ≡ turned_down m j → ⊥
-    down m j o = let r : Refused m j ≡ Found n = sym (ap finds o) ∙ f in let y : ◌≡◌ {A = ℕ} 0 1 = cc in omega arith
+    down m j o = let r : Err (refusal m j) ≡ Ok n = sym (ap finds o) ∙ f in cc
 
     by : Case s z nc nt → (short sh nc nt ≡ false) × CandidateSizes sh z
     by (unread m j r o) = absurd (down m j o)

@@ -15,7 +15,7 @@ use Rattle.prelude.specs.Lists.{at, firsts}
 use Rattle.prelude.proofs.Lists.{firsts_at, firsts_same}
 use Rattle.logic.specs.Sheet.{Sheet}
 use Rattle.logic.specs.WellFormed.{WellFormed}
-use Rattle.logic.specs.Problem.{Allowed}
+use Rattle.logic.specs.Problem.{Allowed, Consistent}
 use Rattle.layout.specs.Packed.{view}
 use Rattle.layout.specs.Views.{Views}
 use Rattle.layout.specs.declared.Parsed.{Parsed}
@@ -28,7 +28,7 @@ use Rattle.tables.proofs.Tables.{extent_monotone}
 use Rattle.tables.proofs.Offsets.{offset_same}
 use Rattle.judge.proofs.Questions.{read_packs}
 use Rattle.consistency.specs.Searchable.{Searchable, SmallSizes}
-use Rattle.first_codes.specs.FirstCodes.{FirstCodes}
+use Rattle.first_codes.specs.FirstCodes.{First}
 use Rattle.writing.specs.Written.{Writable}
 use Rattle.answer.specs.Answer.{entry_of, answer_at}
 use Rattle.answer.specs.Demand.{CandidateSizes}
@@ -94,28 +94,28 @@ module _ (p : Parsed) (q : ReadFrom p) where
     own_sizes : firsts (length sh.bounds) (at given) ≡ z
     own_sizes = sym (firsts_same (length sh.bounds) (at z) (at given) taken) ∙ firsts_at (length sh.bounds) z may.many
 
-    module _ (found : Bool) (c : ℕ → ℕ) (first : FirstCodes (view p) (at given) found c) (nc nt : ℕ) (room : short sh nc nt ≡ false) where
-      -- cause 11
-      pub nothing_found : found ≡ false → outcome_at q.bytes z nc nt ≡ turned_down 11 0
-      nothing_found e =
-          outcome_at_long q.bytes z nc nt sh q.reads room may none
-          (ap (answer_at sh) (sym own_sizes) ∙ none_consistent_none sh (view p) formed views (at given) allowed (first.none e))
+    -- cause 11
+    pub nothing_found : ((c : ℕ → ℕ) → Consistent (view p) (at given) c → ⊥) → (nc nt : ℕ) → short sh nc nt ≡ false → outcome_at q.bytes z nc nt ≡ turned_down 11 0
+    nothing_found n nc nt room =
+        outcome_at_long q.bytes z nc nt sh q.reads room may none
+        (ap (answer_at sh) (sym own_sizes) ∙ none_consistent_none sh (view p) formed views (at given) allowed n)
 
+    module _ (c : ℕ → ℕ) (first : First (view p) (at given) c) (nc nt : ℕ) (room : short sh nc nt ≡ false) where
       -- the first codes are the answer at these sizes
-      pub first_found : found ≡ true → outcome_at q.bytes z nc nt ≡ answered sh (entry_of sh (at given) c)
-      first_found e =
+      pub first_found : outcome_at q.bytes z nc nt ≡ answered sh (entry_of sh (at given) c)
+      first_found =
           outcome_at_long q.bytes z nc nt sh q.reads room may (some (entry_of sh (at given) c))
-          (ap (answer_at sh) (sym own_sizes) ∙ first_codes_answer sh (view p) formed views (at given) c allowed (first.consistent e) (first.first e))
+          (ap (answer_at sh) (sym own_sizes) ∙ first_codes_answer sh (view p) formed views (at given) c allowed first.consistent first.first)
 
       -- and can be written
-      pub first_writable : found ≡ true → extent sh (ceilings sh) ≤ nt → Writable p (at given) c nt
-      first_writable e fits =
+      pub first_writable : extent sh (ceilings sh) ≤ nt → Writable p (at given) c nt
+      first_writable fits =
           record {
             sheet = sh;
             packs = packs;
             sizes = small;
             codes = λ i. by i (dec_lt i p.terms);
-            past = λ i h. (first.consistent e).none i (omega (arith, views.terms));
+            past = λ i h. first.consistent.none i (omega (arith, views.terms));
             room = omega (arith, extent_monotone sh formed (at given) (ceilings sh) (λ s h. omega (arith, views.ceiling s h, allowed.ceiling s (omega (arith, views.sorts)))));
           }
         where
@@ -123,5 +123,5 @@ module _ (p : Parsed) (q : ReadFrom p) where
           small s h = omega (arith, small_sizes s (omega (arith, views.sorts)))
 
           by : (i : ℕ) → Dec (i < p.terms) → c i < 16
-          by i (yes h) = omega (arith, (first.consistent e).range i h, small (at p.sort i) (omega (arith, searchable.sorted.sort i h, views.sorts)))
-          by i (no h) = omega (arith, (first.consistent e).none i (omega arith))
+          by i (yes h) = omega (arith, first.consistent.range i h, small (at p.sort i) (omega (arith, searchable.sorted.sort i h, views.sorts)))
+          by i (no h) = omega (arith, first.consistent.none i (omega arith))

@@ -1,12 +1,12 @@
 -- Interface. What "find_at" gives back for every call, and what both buffers hold afterwards (docs/FORMAT.md, "The questions" and "Refusals").
-use Rattle.std.specs.Prelude.{ℕ, ◌≡◌, Bool, true, false, ◌&&◌, List, length, eqb}
+use Rattle.std.specs.Prelude.{ℕ, ◌≡◌, Bool, true, false, ◌&&◌, List, length, eqb, Result}
 use Rattle.prelude.specs.Lists.{at}
 use Rattle.logic.specs.Sheet.{Sheet}
 use Rattle.layout.specs.Layout.{Reading, accepted, refused, reading}
 use Rattle.tables.specs.Tests.{in_bounds}
 use Rattle.answer.specs.Answer.{answer_at}
 use Rattle.find_at.specs.Found.{Outcome, turned_down, short, answering, finds, codes_in, tables_in}
-use Rattle.find_at.specs.declared.Finding.{Finding}
+use Rattle.prelude.specs.declared.refusal.Refusal.{Refusal}
 
 -- Cause 17 does not apply: there are as many sizes as fields, they lie from floor to ceiling and sum to at most the total. `in_bounds` is the judge's
 -- test; that this test is `CandidateSizes` of answer/specs/Demand.antt: `candidate_sizes_test` of proofs/Sizes.antt.
@@ -28,7 +28,7 @@ unfoldable pub outcome_at : List ℕ → List ℕ → ℕ → ℕ → Outcome
 outcome_at s sizes code_bytes table_bytes = consider_at (reading s) sizes code_bytes table_bytes
 
 -- THE RESULT
-unfoldable pub finding_at : List ℕ → List ℕ → ℕ → ℕ → Finding
+unfoldable pub finding_at : List ℕ → List ℕ → ℕ → ℕ → Result ℕ Refusal
 finding_at s sizes code_bytes table_bytes = finds (outcome_at s sizes code_bytes table_bytes)
 
 -- THE BUFFERS at exit, from the sheet's bytes, the sizes and both buffers at entry
@@ -40,7 +40,7 @@ tables_after_at s sizes codes tables = tables_in (outcome_at s sizes (length cod
 
 -- WHAT FIND_AT PROMISES of a call on the bytes s and the sizes z, the three clauses of its contract: the result, and every byte of both buffers. A
 -- primed buffer is the buffer at exit.
-pub record FindsAt (s z cs ts cs' ts' : List ℕ) (r : Finding) : Type 0 where
+pub record FindsAt (s z cs ts cs' ts' : List ℕ) (r : Result ℕ Refusal) : Type 0 where
   pub result : r ≡ finding_at s z (length cs) (length ts)
   pub codes : cs' ≡ codes_after_at s z cs ts
   pub tables : ts' ≡ tables_after_at s z cs ts

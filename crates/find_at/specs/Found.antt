@@ -1,13 +1,13 @@
 -- Interface. What find and find_at share: the test of both buffers, and what an outcome makes of the result and of the buffers (docs/FORMAT.md, "The
 -- questions" and "Refusals").
-use Rattle.std.specs.Prelude.{ℕ, Bool, ◌||◌, List, length, ltb}
+use Rattle.std.specs.Prelude.{ℕ, Bool, ◌||◌, List, length, ltb, Result, Ok, Err}
 use Rattle.std.proofs.Math.Option.{Option, none, some}
+use Rattle.prelude.specs.Causes.{refusal}
 use Rattle.prelude.specs.Lists.{fronted}
 use Rattle.logic.specs.Sheet.{Sheet, bound_at}
 use Rattle.tables.specs.Layout.{extent, encoded}
 use Rattle.answer.specs.Answer.{Entry, sum, structure_of}
-use Rattle.find_at.specs.declared.Finding.{Finding}
-use Rattle.find_at.specs.declared.Finding.TheVariants.{Found, Refused}
+use Rattle.prelude.specs.declared.refusal.Refusal.{Refusal}
 
 -- a call is turned down with a number and a place, or the sheet has an answer
 pub data Outcome : Type 0 where
@@ -29,9 +29,9 @@ answering sh none = turned_down 11 0
 answering sh (some e) = answered sh e
 
 -- THE RESULT: the sum of the sizes, or the refusal
-abbrev pub finds : Outcome → Finding
-finds (turned_down n i) = Refused n i
-finds (answered sh e) = Found (sum e.sizes)
+abbrev pub finds : Outcome → Result ℕ Refusal
+finds (turned_down n i) = Err (refusal n i)
+finds (answered sh e) = Ok (sum e.sizes)
 
 -- THE BUFFERS at exit, from the buffers at entry
 abbrev pub codes_in : Outcome → List ℕ → List ℕ

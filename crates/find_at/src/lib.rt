@@ -11,64 +11,48 @@ ghost use Rattle.find_at.specs.Found.{ceilings, short};
 ghost use Rattle.find_at.specs.FindAt.{candidate_sizes, finding_at, codes_after_at, tables_after_at, FindsAt};
 
 use layout::Parsed;
+use prelude::refusal::{Cause, Refusal};
 use prelude::{MOST_CODES, MOST_SORTS, MOST_SYMBOLS};
 
 // The most bytes of tables that can be asked for: the sizes, and each symbol's table with as many rows and columns as there can be.
 pub const MOST_TABLES: usize = MOST_SORTS + MOST_SYMBOLS * MOST_CODES * MOST_CODES;
 
-// The answer to the questions "find_at" and "find".
-#[derive(Clone, Copy)]
-pub enum Finding {
-    // the sum of the sizes
-    Found { sum: usize },
-    Refused { number: u8, place: usize },
-}
-
-// Find at given sizes: of the answers to a sheet that have exactly these sizes, the first. It gives the sum of the sizes, or the refusal's number and
-// place; the codes of the expressions stand in front of `codes` and the tables in front of `tables`, and every other byte of both is as it was.
-pub fn find_at(sheet: &[u8], sizes: &[u8], codes: &mut [u8], tables: &mut [u8]) -> Finding
+// Find at given sizes: of the answers to a sheet that have exactly these sizes, the first. It gives the sum of the sizes, or the refusal; the codes of
+// the expressions stand in front of `codes` and the tables in front of `tables`, and every other byte of both is as it was.
+pub fn find_at(
+    sheet: &[u8],
+    sizes: &[u8],
+    codes: &mut [u8],
+    tables: &mut [u8],
+) -> Result<usize, Refusal>
     ensures result { result ≡ finding_at sheet.now sizes.now (length codes.old) (length tables.old) }
     ensures codes { codes.new ≡ codes_after_at sheet.now sizes.now codes.old tables.old }
     ensures tables { tables.new ≡ tables_after_at sheet.now sizes.now codes.old tables.old }
 {
-    let parsing = sheet::parse(sheet);
-    let number = parsing.number;
-    let place = parsing.place;
-    if number != 0 {
-        return Finding::Refused { number, place };
-    }
-    let p = parsing.sheet;
+    let p = sheet::parse(sheet)?;
     find_at_parsed(p, sizes, codes, tables)
 }
 
 // Find at given sizes, of a sheet that has been parsed: cause 10, then cause 17, then cause 11, then the answer.
-pub fn find_at_parsed(p: Parsed, sizes: &[u8], codes: &mut [u8], tables: &mut [u8]) -> Finding
+pub fn find_at_parsed(
+    p: Parsed,
+    sizes: &[u8],
+    codes: &mut [u8],
+    tables: &mut [u8],
+) -> Result<usize, Refusal>
     requires { ReadFrom p }
     ensures { (q : ReadFrom p) → FindsAt q.bytes sizes.now codes.old tables.old codes.new tables.new result }
 {
     if are_short(p, codes.len(), tables.len()) {
-        return Finding::Refused {
-            number: 10,
-            place: 0,
-        };
+        return Err(Cause::ShortBuffer.at(0));
     }
     if !are_allowed(p, sizes) {
-        return Finding::Refused {
-            number: 17,
-            place: 0,
-        };
+        return Err(Cause::WrongSizes.at(0));
     }
     let given = tables::sizes_of(p.sorts, sizes);
-    let first = first_codes::first_codes(p, given);
-    if !first.found {
-        return Finding::Refused {
-            number: 11,
-            place: 0,
-        };
-    }
-    let chosen = first.codes;
+    let chosen = first_codes::first_codes(p, given).ok_or(Cause::NoAnswer.at(0))?;
     let sum = writing::write_answer(p, given, chosen, codes, tables);
-    Finding::Found { sum }
+    Ok(sum)
 }
 
 // Whether buffers of these lengths are too short (cause 10).

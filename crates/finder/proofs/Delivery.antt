@@ -8,6 +8,8 @@ use mathlib.Core.Option.{Option, none, some}
 use lib.ListN.{length, drop}
 use native.Mathlib.Decide.{dec_lt}
 use native.Mathlib.Omega.{arith}
+use Rattle.prelude.specs.Causes.{refusal}
+use Rattle.std.specs.Prelude.{Ok, Err}
 use Rattle.logic.specs.Sheet.{Sheet}
 use Rattle.logic.specs.Order.{sizes_of}
 use Rattle.logic.specs.WellFormed.{WellFormed}
@@ -28,7 +30,6 @@ use Rattle.answer.proofs.Listing.{answer_at_lem, answer_sizes, sum_firsts}
 use Rattle.answer.proofs.Coincide.{coincide_answers, round_trip}
 use Rattle.find_at.specs.Found.{turned_down, answered, ceilings, answering}
 use Rattle.find_at.specs.Promise.{DeliveredAt, codes_written, tables_written}
-use Rattle.find_at.specs.declared.Finding.TheVariants.{Found, Refused}
 use Rattle.find_at.proofs.Delivery as atSizes
 use Rattle.finder.specs.Find.{outcome, finding, codes_after, tables_after}
 use Rattle.finder.specs.Promise.{Delivered, Promised}
@@ -99,19 +100,19 @@ module _ (sh : Sheet) (w : WellFormed sh) (s cs ts : List ℕ) (reads : reading 
     behind_tables_lem = atSizes.behind_tables_lem sh w e.sizes e given cs ts cs' ts' x.codes x.tables
 
   -- what was found is the answer
-  found_is : (n : ℕ) → finding s (length cs) (length ts) ≡ Found n → (e : Entry) × (answer sh ≡ some e) × (sum e.sizes ≡ n)
+  found_is : (n : ℕ) → finding s (length cs) (length ts) ≡ Ok n → (e : Entry) × (answer sh ≡ some e) × (sum e.sizes ≡ n)
   found_is n f = step (answer sh) refl
     where
       step : (a : Option Entry) → answer sh ≡ a → (e : Entry) × (answer sh ≡ some e) × (sum e.sizes ≡ n)
-      step none q = let r : Refused 11 0 ≡ Found n = sym (exits none q).result ∙ f in let z : ◌≡◌ {A = ℕ} 0 1 = cc in absurd (omega arith)
-      step (some e) q = (e, q, (let r : Found (sum e.sizes) ≡ Found n = sym (exits (some e) q).result ∙ f in cc))
+      step none q = let r : Err (refusal 11 0) ≡ Ok n = sym (exits none q).result ∙ f in cc
+      step (some e) q = (e, q, (let r : Ok (sum e.sizes) ≡ Ok n = sym (exits (some e) q).result ∙ f in cc))
 
-  refused_none : finding s (length cs) (length ts) ≡ Refused 11 0 → answer sh ≡ none
+  refused_none : finding s (length cs) (length ts) ≡ Err (refusal 11 0) → answer sh ≡ none
   refused_none f = step (answer sh) refl
     where
       step : (a : Option Entry) → answer sh ≡ a → answer sh ≡ none
       step none q = q
-      step (some e) q = let r : Found (sum e.sizes) ≡ Refused 11 0 = sym (exits (some e) q).result ∙ f in let z : ◌≡◌ {A = ℕ} 0 1 = cc in absurd (omega arith)
+      step (some e) q = let r : Ok (sum e.sizes) ≡ Err (refusal 11 0) = sym (exits (some e) q).result ∙ f in cc
 
   -- demand 3 of the call
   pub promised : Promised sh s cs ts
@@ -131,8 +132,8 @@ accepted_promised s cs ts sh q = promised sh (accepted_well_formed s sh q) s cs 
 -- What is found and written does not depend on what the buffers held, nor on how long they are once they suffice.
 pub record Same (sh : Sheet) (s cs ts cs' ts' : List ℕ) : Type 0 where
   pub result : finding s (length cs) (length ts) ≡ finding s (length cs') (length ts')
-  pub codes : (n : ℕ) → finding s (length cs) (length ts) ≡ Found n → codes_written sh (codes_after s cs ts) ≡ codes_written sh (codes_after s cs' ts')
-  pub tables : (n : ℕ) → finding s (length cs) (length ts) ≡ Found n → tables_written sh (tables_after s cs ts) ≡ tables_written sh (tables_after s cs' ts')
+  pub codes : (n : ℕ) → finding s (length cs) (length ts) ≡ Ok n → codes_written sh (codes_after s cs ts) ≡ codes_written sh (codes_after s cs' ts')
+  pub tables : (n : ℕ) → finding s (length cs) (length ts) ≡ Ok n → tables_written sh (tables_after s cs ts) ≡ tables_written sh (tables_after s cs' ts')
 
 pub same : (sh : Sheet) → WellFormed sh → (s cs ts cs' ts' : List ℕ) → reading s ≡ accepted sh → length sh.terms ≤ length cs → extent sh (ceilings sh) ≤ length ts → length sh.terms ≤ length cs' → extent sh (ceilings sh) ≤ length ts' → Same sh s cs ts cs' ts'
 same sh w s cs ts cs' ts' q h k h' k' =
@@ -147,10 +148,10 @@ same sh w s cs ts cs' ts' q h k h' k' =
     }
 
 -- the judge finds that delivered tables fit
-pub judged_fits : (s : List ℕ) (sh : Sheet) (n : ℕ) (C T : List ℕ) → reading s ≡ accepted sh → Delivered sh n C T → judgement s T ≡ Fits
+pub judged_fits : (s : List ℕ) (sh : Sheet) (n : ℕ) (C T : List ℕ) → reading s ≡ accepted sh → Delivered sh n C T → judgement s T ≡ Ok Fits
 unfolding judgement
 judged_fits s sh n C T q d =
-    ap (λ (r : Reading). judged_of r T) q ∙ (judged_says sh T Fits).1 (d.laid, d.candidate, d.satisfies)
+    ap (λ (r : Reading). judged_of r T) q ∙ (judged_says sh T (Ok Fits)).1 (d.laid, d.candidate, d.satisfies)
 
 -- delivered tables answer the sheet by the rule `unforced`, with their own sizes and the delivered codes
 pub delivered_by : (sh : Sheet) (n : ℕ) (C T : List ℕ) → Delivered sh n C T → AnswersBy unforced sh (record { sizes = sizes_of (decoded sh T) sh; codes = C }) (decoded sh T)
@@ -167,11 +168,10 @@ delivered_by sh n C T d =
     d.unreached
 
 -- something is found only where both buffers suffice
-module _ (s cs ts : List ℕ) (sh : Sheet) (n : ℕ) (reads : reading s ≡ accepted sh) (found : finding s (length cs) (length ts) ≡ Found n) where
+module _ (s cs ts : List ℕ) (sh : Sheet) (n : ℕ) (reads : reading s ≡ accepted sh) (found : finding s (length cs) (length ts) ≡ Ok n) where
   not_short : (length cs < length sh.terms) ⊎ (length ts < extent sh (ceilings sh)) → ⊥
   not_short h =
-      let r : Refused 10 0 ≡ Found n = sym (exit s cs ts (turned_down 10 0) (outcome_short s sh (length cs) (length ts) reads h)).result ∙ found in
-      let z : ◌≡◌ {A = ℕ} 0 1 = cc in absurd (omega arith)
+      let r : Err (refusal 10 0) ≡ Ok n = sym (exit s cs ts (turned_down 10 0) (outcome_short s sh (length cs) (length ts) reads h)).result ∙ found in cc
 
   pub codes_fit_lem : length sh.terms ≤ length cs
   codes_fit_lem = elim (dec_lt (length cs) (length sh.terms)) [ yes h ↦ absurd (not_short (inl h)) | no h ↦ omega arith ]

@@ -6,6 +6,8 @@ use mathlib.Core.Bool.{false}
 use mathlib.Core.List.{List}
 use mathlib.Core.Option.{Option, none, some}
 use lib.ListN.{length, take}
+use Rattle.std.specs.Prelude.{Result, Ok, Err}
+use Rattle.prelude.specs.Causes.{refusal}
 use Rattle.logic.specs.Sheet.{Sheet}
 use Rattle.logic.specs.WellFormed.{WellFormed}
 use Rattle.layout.specs.Layout.{Reading, accepted, refused, reading}
@@ -20,14 +22,11 @@ use Rattle.judge.proofs.Questions.{read_packs}
 use Rattle.answer.specs.Answer.{Entry, answer, sum}
 use Rattle.answer.proofs.Listing.{answer_at_lem, answer_sizes}
 use Rattle.sizes.specs.Sizing.{sizing, sizes_after, turned_down as Sizing·turnedDown}
-use Rattle.sizes.specs.declared.Sizing.{Sizing}
-use Rattle.sizes.specs.declared.Sizing.TheVariants as sized
 use Rattle.sizes.proofs.Outcomes as sizes
 use Rattle.sizes.proofs.Least as least
 use Rattle.find_at.specs.Found.{Outcome, turned_down, answered, ceilings, short}
 use Rattle.find_at.specs.FindAt.{finding_at, codes_after_at, tables_after_at, FindsAt}
-use Rattle.find_at.specs.declared.Finding.{Finding}
-use Rattle.find_at.specs.declared.Finding.TheVariants.{Refused}
+use Rattle.prelude.specs.declared.refusal.Refusal.{Refusal}
 use Rattle.find_at.proofs.Outcomes.{long_enough}
 use Rattle.find_at.proofs.Buffers.{ExitAt}
 use Rattle.find_at.proofs.Delivery.{exits_at}
@@ -41,21 +40,21 @@ module _ (s : List ℕ) (n : ℕ) (zs cs ts : List ℕ) where
   z = take n (sizes_after s zs)
 
   -- where sizes refuses with the number and place that find refuses with
-  both_refused : (m i : ℕ) → sizing s (length zs) ≡ sized.Refused m i → Exit s cs ts (turned_down m i) → InTurn s n zs cs ts
+  both_refused : (m i : ℕ) → sizing s (length zs) ≡ Err (refusal m i) → Exit s cs ts (turned_down m i) → InTurn s n zs cs ts
   both_refused m i q x =
       record {
-        result = x.result ∙ sym (ap (λ (r : Sizing). result_of r (finding_at s z (length cs) (length ts))) q);
-        codes = x.codes ∙ sym (ap (λ (r : Sizing). buffer_of r cs (codes_after_at s z cs ts)) q);
-        tables = x.tables ∙ sym (ap (λ (r : Sizing). buffer_of r ts (tables_after_at s z cs ts)) q);
+        result = x.result ∙ sym (ap (λ (r : Result ℕ Refusal). result_of r (finding_at s z (length cs) (length ts))) q);
+        codes = x.codes ∙ sym (ap (λ (r : Result ℕ Refusal). buffer_of r cs (codes_after_at s z cs ts)) q);
+        tables = x.tables ∙ sym (ap (λ (r : Result ℕ Refusal). buffer_of r ts (tables_after_at s z cs ts)) q);
       }
 
   -- where sizes gives sizes at which find_at answers as find does
-  both_found : (k : ℕ) (o : Outcome) → sizing s (length zs) ≡ sized.Sized k → Exit s cs ts o → ExitAt s z cs ts o → InTurn s n zs cs ts
+  both_found : (k : ℕ) (o : Outcome) → sizing s (length zs) ≡ Ok k → Exit s cs ts o → ExitAt s z cs ts o → InTurn s n zs cs ts
   both_found k o q x y =
       record {
-        result = x.result ∙ sym y.result ∙ sym (ap (λ (r : Sizing). result_of r (finding_at s z (length cs) (length ts))) q);
-        codes = x.codes ∙ sym y.codes ∙ sym (ap (λ (r : Sizing). buffer_of r cs (codes_after_at s z cs ts)) q);
-        tables = x.tables ∙ sym y.tables ∙ sym (ap (λ (r : Sizing). buffer_of r ts (tables_after_at s z cs ts)) q);
+        result = x.result ∙ sym y.result ∙ sym (ap (λ (r : Result ℕ Refusal). result_of r (finding_at s z (length cs) (length ts))) q);
+        codes = x.codes ∙ sym y.codes ∙ sym (ap (λ (r : Result ℕ Refusal). buffer_of r cs (codes_after_at s z cs ts)) q);
+        tables = x.tables ∙ sym y.tables ∙ sym (ap (λ (r : Result ℕ Refusal). buffer_of r ts (tables_after_at s z cs ts)) q);
       }
 
   -- THEOREM: find is the two in turn, of every call with buffers that suffice
@@ -85,20 +84,20 @@ module _ (s : List ℕ) (n : ℕ) (zs cs ts : List ℕ) where
 
   -- so a call of the two gives back and leaves what find does
   module _ (t : InTurn s n zs cs ts) where
-    pub turn_refused : (m i : ℕ) → sizing s (length zs) ≡ sized.Refused m i → Finds s cs ts cs ts (Refused m i)
-    turn_refused m i q =
+    pub turn_refused : (e : Refusal) → sizing s (length zs) ≡ Err e → Finds s cs ts cs ts (Err e)
+    turn_refused e q =
         record {
-          result = sym (t.result ∙ ap (λ (r : Sizing). result_of r (finding_at s z (length cs) (length ts))) q);
-          codes = sym (t.codes ∙ ap (λ (r : Sizing). buffer_of r cs (codes_after_at s z cs ts)) q);
-          tables = sym (t.tables ∙ ap (λ (r : Sizing). buffer_of r ts (tables_after_at s z cs ts)) q);
+          result = sym (t.result ∙ ap (λ (r : Result ℕ Refusal). result_of r (finding_at s z (length cs) (length ts))) q);
+          codes = sym (t.codes ∙ ap (λ (r : Result ℕ Refusal). buffer_of r cs (codes_after_at s z cs ts)) q);
+          tables = sym (t.tables ∙ ap (λ (r : Result ℕ Refusal). buffer_of r ts (tables_after_at s z cs ts)) q);
         }
 
-    pub turn_found : (k : ℕ) → sizing s (length zs) ≡ sized.Sized k → (cs' ts' : List ℕ) (r : Finding) → FindsAt s z cs ts cs' ts' r → Finds s cs ts cs' ts' r
+    pub turn_found : (k : ℕ) → sizing s (length zs) ≡ Ok k → (cs' ts' : List ℕ) (r : Result ℕ Refusal) → FindsAt s z cs ts cs' ts' r → Finds s cs ts cs' ts' r
     turn_found k q cs' ts' r f =
         record {
-          result = f.result ∙ sym (t.result ∙ ap (λ (x : Sizing). result_of x (finding_at s z (length cs) (length ts))) q);
-          codes = f.codes ∙ sym (t.codes ∙ ap (λ (x : Sizing). buffer_of x cs (codes_after_at s z cs ts)) q);
-          tables = f.tables ∙ sym (t.tables ∙ ap (λ (x : Sizing). buffer_of x ts (tables_after_at s z cs ts)) q);
+          result = f.result ∙ sym (t.result ∙ ap (λ (x : Result ℕ Refusal). result_of x (finding_at s z (length cs) (length ts))) q);
+          codes = f.codes ∙ sym (t.codes ∙ ap (λ (x : Result ℕ Refusal). buffer_of x cs (codes_after_at s z cs ts)) q);
+          tables = f.tables ∙ sym (t.tables ∙ ap (λ (x : Result ℕ Refusal). buffer_of x ts (tables_after_at s z cs ts)) q);
         }
 
 -- of a parsed sheet: a byte for each of the most sorts, and buffers that were measured

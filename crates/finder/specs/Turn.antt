@@ -1,27 +1,24 @@
 -- Interface. FIND IS THE TWO IN TURN: sizes, and find_at at the sizes that it wrote; the result and every byte of both buffers. Proved for every call
 -- with buffers that suffice: `find_in_turn` of proofs/Turn.antt.
-use Rattle.std.specs.Prelude.{ℕ, ◌≤◌, ◌≡◌, List, length, take}
+use Rattle.std.specs.Prelude.{ℕ, ◌≤◌, ◌≡◌, List, length, take, Result, Ok, Err}
 use Rattle.logic.specs.Sheet.{Sheet}
 use Rattle.layout.specs.Layout.{accepted, reading}
 use Rattle.tables.specs.Layout.{extent}
 use Rattle.sizes.specs.Sizing.{sizing, sizes_after}
-use Rattle.sizes.specs.declared.Sizing.{Sizing}
-use Rattle.sizes.specs.declared.Sizing.TheVariants as sized
 use Rattle.find_at.specs.Found.{ceilings}
 use Rattle.find_at.specs.FindAt.{finding_at, codes_after_at, tables_after_at}
-use Rattle.find_at.specs.declared.Finding.{Finding}
-use Rattle.find_at.specs.declared.Finding.TheVariants.{Refused}
+use Rattle.prelude.specs.declared.refusal.Refusal.{Refusal}
 use Rattle.finder.specs.Find.{finding, codes_after, tables_after}
 
--- where sizes refuses, the two in turn refuse with the same number and place, and nothing more is asked
-abbrev pub result_of : Sizing → Finding → Finding
-result_of (sized.Refused n i) found = Refused n i
-result_of (sized.Sized sum) found = found
+-- where sizes refuses, the two in turn refuse with the same refusal, and nothing more is asked
+abbrev pub result_of : Result ℕ Refusal → Result ℕ Refusal → Result ℕ Refusal
+result_of (Err r) found = Err r
+result_of (Ok sum) found = found
 
 -- and a buffer is as it was
-abbrev pub buffer_of : Sizing → List ℕ → List ℕ → List ℕ
-buffer_of (sized.Refused n i) before after = before
-buffer_of (sized.Sized sum) before after = after
+abbrev pub buffer_of : Result ℕ Refusal → List ℕ → List ℕ → List ℕ
+buffer_of (Err r) before after = before
+buffer_of (Ok sum) before after = after
 
 -- A call of sizes on the bytes s with the buffer zs, of which the sizes of n fields stand in front then; and one of find_at at these sizes, with the
 -- buffers cs and ts.

@@ -5,46 +5,32 @@ ghost use Rattle.std.specs.Prelude.{◌≡◌, length};
 ghost use Rattle.sheet.specs.Verdict.{ReadFrom};
 ghost use Rattle.finder.specs.Find.{finding, codes_after, tables_after, Finds};
 
-use find_at::Finding;
 use layout::Parsed;
 use prelude::MOST_SORTS;
-use sizes::Sizing;
+use prelude::refusal::{Cause, Refusal};
 
-// Find: the first answer to a sheet. It gives the sum of the sizes, or the refusal's number and place; the codes of the expressions stand in
-// front of `codes` and the tables in front of `tables`, and every other byte of both is as it was.
-pub fn find(sheet: &[u8], codes: &mut [u8], tables: &mut [u8]) -> Finding
+// Find: the first answer to a sheet. It gives the sum of the sizes, or the refusal; the codes of the expressions stand in front of `codes` and
+// the tables in front of `tables`, and every other byte of both is as it was.
+pub fn find(sheet: &[u8], codes: &mut [u8], tables: &mut [u8]) -> Result<usize, Refusal>
     ensures result { result ≡ finding sheet.now (length codes.old) (length tables.old) }
     ensures codes { codes.new ≡ codes_after sheet.now codes.old tables.old }
     ensures tables { tables.new ≡ tables_after sheet.now codes.old tables.old }
 {
-    let parsing = sheet::parse(sheet);
-    let number = parsing.number;
-    let place = parsing.place;
-    if number != 0 {
-        return Finding::Refused { number, place };
-    }
-    let p = parsing.sheet;
+    let p = sheet::parse(sheet)?;
     in_turn(p, codes, tables)
 }
 
 // Find, of a sheet that has been parsed: cause 10, then the two questions in turn, sizes and find_at at these sizes.
-pub fn in_turn(p: Parsed, codes: &mut [u8], tables: &mut [u8]) -> Finding
+pub fn in_turn(p: Parsed, codes: &mut [u8], tables: &mut [u8]) -> Result<usize, Refusal>
     requires { ReadFrom p }
     ensures { (q : ReadFrom p) → Finds q.bytes codes.old tables.old codes.new tables.new result }
 {
     if find_at::are_short(p, codes.len(), tables.len()) {
-        return Finding::Refused {
-            number: 10,
-            place: 0,
-        };
+        return Err(Cause::ShortBuffer.at(0));
     }
     let mut sizes = [0u8; MOST_SORTS];
-    let sized = sizes::sizes_parsed(p, &mut sizes);
-    match sized {
-        Sizing::Refused { number, place } => Finding::Refused { number, place },
-        Sizing::Sized { .. } => {
-            let n = p.sorts;
-            find_at::find_at_parsed(p, &sizes[..n], codes, tables)
-        }
-    }
+    // the sum is find_at's to give; its name here names the goal at which `seventeen_for_eleven` is refused
+    let _sum = sizes::sizes_parsed(p, &mut sizes)?;
+    let n = p.sorts;
+    find_at::find_at_parsed(p, &sizes[..n], codes, tables)
 }

@@ -6,14 +6,18 @@ use mathlib.Core.Bool.{Bool, true, false, ◌||◌}
 use mathlib.Core.List.{List}
 use mathlib.Core.Option.{Option, none, some}
 use lib.ListN.{length, take, drop, length-append}
+use Rattle.std.specs.Prelude.{Result, Ok, Err, IsOk}
+use Rattle.prelude.specs.Causes.{number_of, cause_of, refusal}
+use Rattle.prelude.specs.declared.refusal.Refusal.{Refusal}
 use Rattle.logic.specs.Sheet.{Sheet}
 use Rattle.logic.specs.WellFormed.{WellFormed}
 use Rattle.logic.proofs.Meaning.{length_codes}
 use Rattle.prelude.specs.Lists.{at, fronted}
 use Rattle.layout.specs.Layout.{Reading, accepted, refused, reading}
-use Rattle.layout.proofs.Answers.{accepted_well_formed}
+use Rattle.layout.proofs.Answers.{accepted_well_formed, refused_number}
 use Rattle.sheet.specs.Verdict.{parsing}
-use Rattle.sheet.specs.declared.Parsing.{Parsing}
+use Rattle.layout.specs.declared.Parsed.{Parsed}
+use Rattle.sheet.proofs.Refusals.{in_sheet}
 use Rattle.tables.specs.Layout.{extent, encoded}
 use Rattle.tables.specs.Parts.{Packs}
 use Rattle.tables.proofs.Packing.{packs_views}
@@ -24,8 +28,6 @@ use Rattle.answer.proofs.Listing.{answer_at_lem, answer_sizes}
 use Rattle.answer.proofs.Demand.{demand_at}
 use Rattle.find_at.specs.Found.{Outcome, turned_down, answered, ceilings, short, answering, finds, codes_in, tables_in}
 use Rattle.find_at.specs.FindAt.{candidate_sizes, at_sizes, consider_at, outcome_at, finding_at, codes_after_at, tables_after_at}
-use Rattle.find_at.specs.declared.Finding.{Finding}
-use Rattle.find_at.specs.declared.Finding.TheVariants.{Found, Refused}
 use Rattle.find_at.proofs.Sizes.{candidate_sizes_test}
 use Rattle.find_at.proofs.Delivery.{told, written, whole}
 use Rattle.finder.specs.Find.{consider, outcome, finding, codes_after, tables_after}
@@ -105,8 +107,45 @@ module _ (s : List ℕ) (t : Sheet) (e : Entry) where
       step (refused n i) q g = let no : ◌≡◌ {A = ℕ} 0 1 = cc in absurd (omega arith)
       step (accepted sh) q g = tested sh q (short sh nc nt) g
 
+-- a call is turned down with the number of a cause
+module _ (s : List ℕ) (n i : ℕ) where
+  number_known : (m j : ℕ) → turned_down m j ≡ turned_down n i → number_of (cause_of m) ≡ m → number_of (cause_of n) ≡ n
+  number_known m j e k = let same : m ≡ n = cc in subst (λ (x : ℕ). number_of (cause_of x) ≡ x) same k
+
+  known_answering : (sh : Sheet) (a : Option Entry) → answering sh a ≡ turned_down n i → number_of (cause_of n) ≡ n
+  known_answering sh none g = number_known 11 0 g refl
+  known_answering sh (some d) g = cc
+
+  known_found : (nc nt : ℕ) → outcome s nc nt ≡ turned_down n i → number_of (cause_of n) ≡ n
+  unfolding outcome
+  known_found nc nt f = step (reading s) refl f
+    where
+      tested : (sh : Sheet) (b : Bool) → branch b (answering sh (answer sh)) ≡ turned_down n i → number_of (cause_of n) ≡ n
+      tested sh true g = number_known 10 0 g refl
+      tested sh false g = known_answering sh (answer sh) g
+
+      step : (r : Reading) → reading s ≡ r → consider r nc nt ≡ turned_down n i → number_of (cause_of n) ≡ n
+      step (refused m j) q g = number_known m j g (in_sheet m (refused_number s m j q))
+      step (accepted sh) q g = tested sh (short sh nc nt) g
+
+  known_found_at : (z : List ℕ) (nc nt : ℕ) → outcome_at s z nc nt ≡ turned_down n i → number_of (cause_of n) ≡ n
+  unfolding outcome_at
+  known_found_at z nc nt f = step (reading s) refl f
+    where
+      right : (sh : Sheet) (b : Bool) → elim b as (λ x. Outcome) [ true ↦ answering sh (answer_at sh z) | false ↦ turned_down 17 0 ] ≡ turned_down n i → number_of (cause_of n) ≡ n
+      right sh true g = known_answering sh (answer_at sh z) g
+      right sh false g = number_known 17 0 g refl
+
+      tested : (sh : Sheet) (b : Bool) → branch b (at_sizes sh z) ≡ turned_down n i → number_of (cause_of n) ≡ n
+      tested sh true g = number_known 10 0 g refl
+      tested sh false g = right sh (candidate_sizes sh z) g
+
+      step : (r : Reading) → reading s ≡ r → consider_at r z nc nt ≡ turned_down n i → number_of (cause_of n) ≡ n
+      step (refused m j) q g = number_known m j g (in_sheet m (refused_number s m j q))
+      step (accepted sh) q g = tested sh (short sh nc nt) g
+
 -- what a call leaves, by its contract
-pub find_leaves : (s cs ts cs' ts' : List ℕ) (r : Finding) → r ≡ finding s (length cs) (length ts) → cs' ≡ codes_after s cs ts → ts' ≡ tables_after s cs ts → Leaves s (outcome s (length cs) (length ts)) r cs' ts'
+pub find_leaves : (s cs ts cs' ts' : List ℕ) (r : Result ℕ Refusal) → r ≡ finding s (length cs) (length ts) → cs' ≡ codes_after s cs ts → ts' ≡ tables_after s cs ts → Leaves s (outcome s (length cs) (length ts)) r cs' ts'
 unfolding finding codes_after tables_after
 find_leaves s cs ts cs' ts' r a b c =
     record {
@@ -116,9 +155,10 @@ find_leaves s cs ts cs' ts' r a b c =
       codes = b;
       tables = c;
       own = λ sh e. own_found s sh e (length cs) (length ts);
+      known = λ n i. known_found s n i (length cs) (length ts);
     }
 
-pub find_at_leaves : (s z cs ts cs' ts' : List ℕ) (r : Finding) → r ≡ finding_at s z (length cs) (length ts) → cs' ≡ codes_after_at s z cs ts → ts' ≡ tables_after_at s z cs ts → Leaves s (outcome_at s z (length cs) (length ts)) r cs' ts'
+pub find_at_leaves : (s z cs ts cs' ts' : List ℕ) (r : Result ℕ Refusal) → r ≡ finding_at s z (length cs) (length ts) → cs' ≡ codes_after_at s z cs ts → ts' ≡ tables_after_at s z cs ts → Leaves s (outcome_at s z (length cs) (length ts)) r cs' ts'
 unfolding finding_at codes_after_at tables_after_at
 find_at_leaves s z cs ts cs' ts' r a b c =
     record {
@@ -128,15 +168,20 @@ find_at_leaves s z cs ts cs' ts' r a b c =
       codes = b;
       tables = c;
       own = λ sh e. own_found_at s sh e z (length cs) (length ts);
+      known = λ n i. known_found_at s n i z (length cs) (length ts);
     }
 
 -- a refusal's line
-pub refused_line : (s : List ℕ) (o : Outcome) (r : Finding) (cs ts : List ℕ) → Leaves s o r cs ts → (n i : ℕ) → r ≡ Refused n i → refusal_line n i ≡ find_line o
-refused_line s o r cs ts l n i e = step o (sym l.result ∙ e)
+pub refused_line : (s : List ℕ) (o : Outcome) (r : Result ℕ Refusal) (cs ts : List ℕ) → Leaves s o r cs ts → (q : Refusal) → r ≡ Err q → refusal_line (number_of q.cause) q.place ≡ find_line o
+refused_line s o r cs ts l q e = step o refl (sym l.result ∙ e)
   where
-    step : (x : Outcome) → finds x ≡ Refused n i → refusal_line n i ≡ find_line x
-    step (turned_down m j) q = ap₂ refusal_line (cc) (cc)
-    step (answered sh d) q = let no : ◌≡◌ {A = ℕ} 0 1 = cc in absurd (omega arith)
+    step : (x : Outcome) → o ≡ x → finds x ≡ Err q → refusal_line (number_of q.cause) q.place ≡ find_line o
+    step (turned_down m j) y f =
+        let same : q ≡ refusal m j = cc in
+        ap (λ (p : Refusal). refusal_line (number_of p.cause) p.place) same
+        ∙ ap (λ (n : ℕ). refusal_line n j) (l.known m j y)
+        ∙ ap find_line (sym y)
+    step (answered sh d) y f = cc
 
 -- where something was found: the sheet, the entry, and the sum of its sizes
 record Has (o : Outcome) (n : ℕ) : Type 0 where
@@ -145,12 +190,19 @@ record Has (o : Outcome) (n : ℕ) : Type 0 where
   is : o ≡ answered sheet entry
   total : sum entry.sizes ≡ n
 
-has : (o : Outcome) (n : ℕ) → finds o ≡ Found n → Has o n
-has (turned_down m i) n q = let no : ◌≡◌ {A = ℕ} 0 1 = cc in absurd (omega arith)
+has : (o : Outcome) (n : ℕ) → finds o ≡ Ok n → Has o n
+has (turned_down m i) n q = cc
 has (answered sh e) n q = record { sheet = sh; entry = e; is = refl; total = cc }
 
+-- something was found on a sheet that is accepted
+pub parse_ok : (s : List ℕ) (o : Outcome) (r : Result ℕ Refusal) (cs ts : List ℕ) → Leaves s o r cs ts → (n : ℕ) → r ≡ Ok n → (x : Result Parsed Refusal) → x ≡ parsing (reading s) → IsOk x
+unfolding parsing
+parse_ok s o r cs ts l n e x f =
+    let h = has o n (sym l.result ∙ e) in
+    subst (λ (y : Result Parsed Refusal). IsOk y) (sym (f ∙ ap parsing (l.own h.sheet h.entry h.is).reads)) refl
+
 -- what was found stands in front of both buffers, and the answer's line shows it; the sheet is parsed anew, to see how far it goes
-module _ (s : List ℕ) (o : Outcome) (r : Finding) (cs ts : List ℕ) (l : Leaves s o r cs ts) (n : ℕ) (e : r ≡ Found n) (p : Parsing) (x : p ≡ parsing (reading s)) where
+module _ (s : List ℕ) (o : Outcome) (r : Result ℕ Refusal) (cs ts : List ℕ) (l : Leaves s o r cs ts) (n : ℕ) (e : r ≡ Ok n) (p : Parsed) (x : Ok p ≡ parsing (reading s)) where
   found : Has o n
   found = has o n (sym l.result ∙ e)
 
@@ -163,7 +215,7 @@ module _ (s : List ℕ) (o : Outcome) (r : Finding) (cs ts : List ℕ) (l : Leav
   formed : WellFormed sh
   formed = accepted_well_formed s sh own.reads
 
-  packs : Packs sh p.sheet
+  packs : Packs sh p
   packs = accepted_packs s p x sh own.reads
 
   codes_front : cs ≡ fronted found.entry.codes l.codes_before
@@ -172,21 +224,21 @@ module _ (s : List ℕ) (o : Outcome) (r : Finding) (cs ts : List ℕ) (l : Leav
   tables_front : ts ≡ fronted (encoded (structure_of sh found.entry) sh) l.tables_before
   tables_front = l.tables ∙ ap (λ (y : Outcome). tables_in y l.tables_before) found.is
 
-  terms : p.sheet.terms ≡ length sh.terms
-  terms = (packs_views sh p.sheet packs).terms
+  terms : p.terms ≡ length sh.terms
+  terms = (packs_views sh p packs).terms
 
   long : length found.entry.codes ≡ length sh.terms
   long = ap length (sym own.answers.codes) ∙ length_codes (structure_of sh found.entry) sh
 
-  pub codes_shown : p.sheet.terms ≤ length cs
+  pub codes_shown : p.terms ≤ length cs
   codes_shown =
       omega (arith, terms, long, ap length codes_front, length-append found.entry.codes (drop (length found.entry.codes) l.codes_before))
 
-  codes_told : take p.sheet.terms cs ≡ found.entry.codes
+  codes_told : take p.terms cs ≡ found.entry.codes
   codes_told =
       ap (λ (m : ℕ). take m cs) terms ∙ told sh formed own.sizes found.entry own.answers l.codes_before l.tables_before cs ts codes_front tables_front
 
-  module _ (end : ℕ) (y : (t : Sheet) → Packs t p.sheet → end ≡ extent t (at ts)) where
+  module _ (end : ℕ) (y : (t : Sheet) → Packs t p → end ≡ extent t (at ts)) where
     pub tables_shown : end ≤ length ts
     tables_shown =
         omega (arith, y sh packs, (whole sh formed own.sizes found.entry own.answers l.codes_before l.tables_before cs ts codes_front tables_front).1)
@@ -196,8 +248,8 @@ module _ (s : List ℕ) (o : Outcome) (r : Finding) (cs ts : List ℕ) (l : Leav
         ap (λ (m : ℕ). take m ts) (y sh packs)
         ∙ written sh formed own.sizes found.entry own.answers l.codes_before l.tables_before cs ts codes_front tables_front
 
-    pub found_line : answer_line n (take p.sheet.terms cs) (take end ts) ≡ find_line o
+    pub found_line : answer_line n (take p.terms cs) (take end ts) ≡ find_line o
     found_line =
-        ap (λ (m : ℕ). answer_line m (take p.sheet.terms cs) (take end ts)) (sym found.total)
+        ap (λ (m : ℕ). answer_line m (take p.terms cs) (take end ts)) (sym found.total)
         ∙ ap₂ (answer_line (sum found.entry.sizes)) codes_told tables_told
         ∙ ap find_line (sym found.is)

@@ -15,20 +15,20 @@ ghost use Rattle.questions.specs.Questions.{answer_room};
 ghost use Rattle.findings.specs.Findings.{find_line, find_reply, findat_reply};
 ghost use Rattle.findings.specs.Parts.{Leaves};
 
-use find_at::{Finding, MOST_TABLES};
+use find_at::MOST_TABLES;
 use layout::Parsed;
-use lines::complaint_line;
-use prelude::{MOST_TERMS, lesser, wide};
+use lines::{complaint_line, refusal_line};
+use prelude::refusal::Refusal;
+use prelude::{MOST_TERMS, lesser};
 use questions::MOST_DECODED;
-use words::{decode, is_wrong, number, word, wrong_with};
+use words::{decode, number, word, wrong_with};
 
 // find SHEET CODELEN TABLELEN
 pub fn find_question(line: &[u8], out: &mut [u8]) -> usize
     requires { (length line.now ≤ 262144) × (answer_room ≤ length out.old) }
     ensures { Wrote out.old 0 (find_reply line.now) out.new result }
 {
-    let wrong = wrong_with(line, b"bnn");
-    if is_wrong(wrong) {
+    if let Err(wrong) = wrong_with(line, b"bnn") {
         return complaint_line(out, wrong);
     }
     let mut sheet = [0u8; MOST_DECODED];
@@ -64,8 +64,7 @@ pub fn findat_question(line: &[u8], out: &mut [u8]) -> usize
     requires { (length line.now ≤ 262144) × (answer_room ≤ length out.old) }
     ensures { Wrote out.old 0 (findat_reply line.now) out.new result }
 {
-    let wrong = wrong_with(line, b"bbnn");
-    if is_wrong(wrong) {
+    if let Err(wrong) = wrong_with(line, b"bbnn") {
         return complaint_line(out, wrong);
     }
     let mut sheet = [0u8; MOST_DECODED];
@@ -78,6 +77,8 @@ pub fn findat_question(line: &[u8], out: &mut [u8]) -> usize
 }
 
 // Finds at these sizes, with buffers of these lengths; a longer one than find_at can need makes no difference.
+// Kept: this and the next one are not find's over a closure: each contract has the outcome of its question, and the edits `long_buffer_always` and
+// `long_codes_always` sit in one of the two each.
 fn findat_with(
     sheet: &[u8],
     sizes: &[u8],
@@ -117,16 +118,21 @@ fn findat_into(
 }
 
 // The answer to find and findat: what was found on this sheet, and stands in front of these buffers.
-fn finding_line(sheet: &[u8], found: Finding, codes: &[u8], tables: &[u8], out: &mut [u8]) -> usize
+fn finding_line(
+    sheet: &[u8],
+    found: Result<usize, Refusal>,
+    codes: &[u8],
+    tables: &[u8],
+    out: &mut [u8],
+) -> usize
     requires leaves { (o : Outcome) × Leaves sheet.now o found codes.now tables.now }
     requires codes_len_bound { (length codes.now ≤ 128) × (length tables.now ≤ 16392) × (answer_room ≤ length out.old) }
     ensures { (o : Outcome) → Leaves sheet.now o found codes.now tables.now → Wrote out.old 0 (find_line o) out.new result }
 {
     match found {
-        Finding::Refused { number, place } => text::refused_line(out, wide(number), place),
-        Finding::Found { sum } => {
-            let parsing = sheet::parse(sheet);
-            let p = parsing.sheet;
+        Err(r) => refusal_line(out, r),
+        Ok(sum) => {
+            let p = sheet::parse(sheet).unwrap();
             let many = p.terms;
             let end = written(p, tables);
             text::answer_line(out, sum, &codes[..many], &tables[..end])

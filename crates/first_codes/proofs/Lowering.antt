@@ -1,7 +1,6 @@
 -- Laws of the first codes: no code below those tried is left, and a model with one more term as low as it can be.
 use Prim.Native.Nat.{ℕ, ◌+◌, ◌≤◌, ◌<◌}
-use mathlib.Core.Path.{◌≡◌, refl, sym, ap, subst, ◌∙◌}
-use mathlib.Core.Bool.{Bool, true, false, false≢true}
+use mathlib.Core.Path.{◌≡◌, refl, sym, subst, ◌∙◌}
 use mathlib.Core.List.{List}
 use native.Mathlib.Nat.{ne_of_lt, ne_of_gt}
 use native.Mathlib.Omega.{arith}
@@ -15,50 +14,44 @@ use Rattle.logic.specs.Order.{NotAfter}
 use Rattle.logic.specs.Problem.{Problem, WellSorted, Consistent, Extends, Dead}
 use Rattle.logic.proofs.Decided.{decide_more, decide_less}
 use Rattle.consistency.specs.Searchable.{Padded}
-use Rattle.solve.specs.Solved.{Branches, Solved}
+use Rattle.solve.specs.declared.Choices.{Choices}
+use Rattle.solve.specs.Solved.{Model, Branches}
 use Rattle.solve.proofs.Branching.{Tried}
-use Rattle.first_codes.specs.FirstCodes.{FirstCodes}
+use Rattle.first_codes.specs.FirstCodes.{First}
 use Rattle.first_codes.specs.Parts.{LeastAt}
 
-module _ (P : Problem) (sizes : ℕ → ℕ) (l : List ℕ) (term size mask fresh : ℕ) (flags : List ℕ) (v : ℕ) (b : Branches P sizes (at l) term size mask fresh flags) (t : Tried P sizes l term size mask fresh flags v) where
+module _ (P : Problem) (sizes : ℕ → ℕ) (l : List ℕ) (plan : Choices) (v : ℕ) (b : Branches P sizes (at l) plan) (t : Tried P sizes l plan v) where
   -- where the codes below v that are worth trying are dead, no consistent extension has a code below v
-  tried_least : (c : ℕ → ℕ) → Consistent P sizes c → Extends P (at l) c → v ≤ c term
+  tried_least : (c : ℕ → ℕ) → Consistent P sizes c → Extends P (at l) c → v ≤ c plan.term
   tried_least c con ext =
-      elim (dec_lt (c term) v) [
+      elim (dec_lt (c plan.term) v) [
         | no h ↦ omega arith
         | yes h ↦
             let m = b.covers c con ext in
             let d = m.0 in
             let k = m.1 in
             let le = k.most in
-            absurd (t (d term) (omega arith) k.worth d k.consistent (decide_more P l term (d term) d k.extends refl))
+            absurd (t (d plan.term) (omega arith) k.worth d k.consistent (decide_more P l plan.term (d plan.term) d k.extends refl))
       ]
 
   -- a model found with the code v
-  pub lowest_found : (m codes : List ℕ) (found : Bool) → term < length l → (v ≡ undecided → ⊥) → m ≡ set l term v → found ≡ true → Solved P sizes (at m) found (at codes) → LeastAt P sizes (at l) (at codes) term
-  lowest_found m codes found h small e f s =
+  pub lowest_found : (m codes : List ℕ) → plan.term < length l → (v ≡ undecided → ⊥) → m ≡ set l plan.term v → Model P sizes (at m) (at codes) → LeastAt P sizes (at l) (at codes) plan.term
+  lowest_found m codes h small e s =
       record {
-        consistent = s.consistent f;
-        extends = decide_less P l term v (at codes) b.pending ext;
+        consistent = s.consistent;
+        extends = decide_less P l plan.term v (at codes) b.pending ext;
         least = λ c con x. let y = tried_least c con x in let z = code in omega arith;
       }
     where
-      ext : Extends P (at (set l term v)) (at codes)
-      ext = subst (λ (k : List ℕ). Extends P (at k) (at codes)) e (s.extends f)
+      ext : Extends P (at (set l plan.term v)) (at codes)
+      ext = subst (λ (k : List ℕ). Extends P (at k) (at codes)) e s.extends
 
-      code : at codes term ≡ v
-      code = let same = at_set_same l term v h in ext term b.there (λ u. small (sym same ∙ u)) ∙ same
+      code : at codes plan.term ≡ v
+      code = let same = at_set_same l plan.term v h in ext plan.term b.there (λ u. small (sym same ∙ u)) ∙ same
 
   -- the model at hand, whose code is v
-  pub lowest_kept : (codes : List ℕ) → v ≡ at codes term → Consistent P sizes (at codes) → Extends P (at l) (at codes) → LeastAt P sizes (at l) (at codes) term
-  lowest_kept codes e con ext = record { consistent = con; extends = ext; least = λ c k x. let y = tried_least c k x in omega arith }
-
--- a model whose code is 0 is the lowest, and where the decisions are dead there is no model
-pub lowest_zero : (P : Problem) (sizes q c : ℕ → ℕ) (term : ℕ) → c term ≡ 0 → Consistent P sizes c → Extends P q c → LeastAt P sizes q c term
-lowest_zero P sizes q c term e con ext = record { consistent = con; extends = ext; least = λ d k x. omega arith }
-
-pub lowest_dead : (P : Problem) (sizes q c : ℕ → ℕ) (term : ℕ) → Dead P sizes q → Consistent P sizes c → Extends P q c → LeastAt P sizes q c term
-lowest_dead P sizes q c term dead con ext = absurd (dead c con ext)
+  pub lowest_kept : (codes : List ℕ) → v ≡ at codes plan.term → Model P sizes (at l) (at codes) → LeastAt P sizes (at l) (at codes) plan.term
+  lowest_kept codes e s = record { consistent = s.consistent; extends = s.extends; least = λ c k x. let y = tried_least c k x in omega arith }
 
 -- a code of a term changes nothing past the terms
 pub padded_set : (P : Problem) (codes : List ℕ) (i v : ℕ) → i < P.terms → Padded P (at codes) → Padded P (at (set codes i v))
@@ -91,7 +84,7 @@ module _ (P : Problem) (sizes : ℕ → ℕ) (model decided : List ℕ) (n : ℕ
   pub lowered_pending : at decided n ≡ undecided
   lowered_pending = k.pending n (omega arith) (omega arith)
 
-  module _ (w : WellSorted P) (small : (s : ℕ) → s < P.sorts → sizes s ≤ 16) (better next : List ℕ) (v : ℕ) (low : LeastAt P sizes (at decided) (at better) n) (ev : v ≡ at better n) (en : next ≡ set decided n v) where
+  module _ (w : WellSorted P) (small : (s : ℕ) → s < P.sorts → sizes s ≤ 16) (better : List ℕ) (low : LeastAt P sizes (at decided) (at better) n) where
     not_undecided : (j : ℕ) → j < n → at decided j ≡ undecided → ⊥
     not_undecided j h u =
         let e = k.same j h in
@@ -103,16 +96,19 @@ module _ (P : Problem) (sizes : ℕ → ℕ) (model decided : List ℕ) (n : ℕ
     below : (j : ℕ) → j < n → at decided j ≡ at better j
     below j h = sym (low.extends j (omega arith) (not_undecided j h))
 
+    abbrev pub next : List ℕ
+    next = set decided n (at better n)
+
     other : (j : ℕ) → (j ≡ n → ⊥) → at next j ≡ at decided j
-    other j ne = ap (λ (m : List ℕ). at m j) en ∙ at_set_other decided n v j ne
+    other j ne = at_set_other decided n (at better n) j ne
 
     here : at next n ≡ at better n
-    here = ap (λ (m : List ℕ). at m n) en ∙ at_set_same decided n v (omega (arith, k.length)) ∙ ev
+    here = at_set_same decided n (at better n) (omega (arith, k.length))
 
     pub lowered_more : Lowered P sizes better next (n + 1)
     lowered_more =
         record {
-          length = ap length en ∙ length-set decided n v ∙ k.length;
+          length = length-set decided n (at better n) ∙ k.length;
           consistent = low.consistent;
           same = below_more _ n (λ j h. other j (ne_of_lt h) ∙ below j h) here;
           pending = λ j h l. other j (ne_of_gt (omega arith)) ∙ k.pending j (omega arith) l;
@@ -125,19 +121,9 @@ module _ (P : Problem) (sizes : ℕ → ℕ) (model decided : List ℕ) (n : ℕ
         }
 
 -- every term is as low as it can be
-pub lowered_all : (P : Problem) (sizes : ℕ → ℕ) (model decided : List ℕ) (n : ℕ) → P.terms ≤ n → Lowered P sizes model decided n → FirstCodes P sizes true (at model)
-lowered_all P sizes model decided n le k =
-    record {
-      consistent = λ e. k.consistent;
-      first = λ e c con j h. k.first c con j (omega arith);
-      none = λ e. absurd (false≢true (sym e));
-    }
+pub lowered_all : (P : Problem) (sizes : ℕ → ℕ) (model decided : List ℕ) (n : ℕ) → P.terms ≤ n → Lowered P sizes model decided n → First P sizes (at model)
+lowered_all P sizes model decided n le k = record { consistent = k.consistent; first = λ c con j h. k.first c con j (omega arith) }
 
 -- nothing is decided, so what keeps to it is everything
-pub nothing_decided : (P : Problem) (sizes q c : ℕ → ℕ) (found : Bool) → P.terms ≤ 128 → ((j : ℕ) → j < 256 → q j ≡ undecided) → found ≡ false → Solved P sizes q found c → FirstCodes P sizes false c
-nothing_decided P sizes q c found lim all e s =
-    record {
-      consistent = λ x. absurd (false≢true x);
-      first = λ x. absurd (false≢true x);
-      none = λ x d con. s.none e d con (λ i h n. absurd (n (all i (omega arith))));
-    }
+pub nothing_decided : (P : Problem) (sizes q : ℕ → ℕ) → P.terms ≤ 128 → ((j : ℕ) → j < 256 → q j ≡ undecided) → Dead P sizes q → (c : ℕ → ℕ) → Consistent P sizes c → ⊥
+nothing_decided P sizes q lim all dead c con = dead c con (λ i h n. absurd (n (all i (omega arith))))

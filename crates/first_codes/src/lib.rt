@@ -4,61 +4,39 @@
 ghost use Rattle.std.specs.Prelude.{true, ◌≡◌, ◌<◌};
 ghost use Rattle.prelude.specs.Limits.{undecided};
 ghost use Rattle.prelude.specs.Lists.{at};
-ghost use Rattle.logic.specs.Problem.{Consistent, Extends};
+ghost use Rattle.logic.specs.Problem.{Extends};
 ghost use Rattle.layout.specs.Packed.{view};
 ghost use Rattle.consistency.specs.Searchable.{Searchable, SmallSizes};
 ghost use Rattle.consistency.specs.Searchable.{Padded};
+ghost use Rattle.solve.specs.Solved.{Model};
 ghost use Rattle.first_codes.specs.FirstCodes.{FirstCodes};
 ghost use Rattle.first_codes.specs.Parts.{LeastAt};
 
 use layout::Parsed;
 use prelude::{BYTE_VALUES, MOST_CODES, MOST_SORTS, MOST_TERMS, UNDECIDED, wide};
+use solve::Choices;
 
-// Consistent codes, or that there are none.
-#[derive(Clone, Copy)]
-pub struct Codes {
-    pub found: bool,
-    pub codes: [u8; BYTE_VALUES],
-}
-
-// The consistent codes at these sizes that come first: term by term, each as low as the earlier ones leave it.
-pub fn first_codes(p: Parsed, sizes: [u8; MOST_SORTS]) -> Codes
+// The consistent codes at these sizes that come first: term by term, each as low as the earlier ones leave it. None where there are none.
+pub fn first_codes(p: Parsed, sizes: [u8; MOST_SORTS]) -> Option<[u8; BYTE_VALUES]>
     requires searchable { Searchable p }
     requires small_sizes { SmallSizes p (at sizes) }
-    ensures { FirstCodes (view p) (at sizes) result.found (at result.codes) }
+    ensures { FirstCodes (view p) (at sizes) result }
 {
     let mut decided = [UNDECIDED; BYTE_VALUES];
     let mut weights = [0u16; MOST_TERMS];
-    let s = solve::solve(p, sizes, decided, &mut weights);
-    let mut model = s.codes;
-    if !s.found {
-        return Codes {
-            found: false,
-            codes: model,
-        };
+    let mut model = solve::solve(p, sizes, decided, &mut weights)?;
+    for i in 0..p.terms {
+        model = lower(p, sizes, decided, i, model, &mut weights);
+        decided[i] = model[i];
     }
-    let mut i: usize = 0;
-    while i < p.terms {
-        let better = lower(p, sizes, decided, i, model, &mut weights);
-        model = better;
-        let next = solve::decide(decided, i, wide(model[i]));
-        decided = next;
-        i += 1;
-    }
-    Codes {
-        found: true,
-        codes: model,
-    }
+    Some(model)
 }
 
 // Whether a code is as decided, if it is.
 fn as_decided(decided: u8, code: u8) -> bool
     ensures { result ≡ true → (decided ≡ undecided → ⊥) → code ≡ decided }
 {
-    if decided == UNDECIDED {
-        return true;
-    }
-    code == decided
+    decided == UNDECIDED || code == decided
 }
 
 // Whether codes keep to the decided ones.
@@ -66,12 +44,10 @@ fn extends(p: Parsed, decided: [u8; BYTE_VALUES], codes: [u8; BYTE_VALUES]) -> b
     requires { Searchable p }
     ensures { result ≡ true → Extends (view p) (at decided) (at codes) }
 {
-    let mut i: usize = 0;
-    while i < p.terms {
+    for i in 0..p.terms {
         if !as_decided(decided[i], codes[i]) {
             return false;
         }
-        i += 1;
     }
     true
 }
@@ -91,41 +67,36 @@ fn exchanged(p: Parsed, codes: [u8; BYTE_VALUES], sort: u8, a: u8, b: u8) -> [u8
     ensures { Padded (view p) (at result) }
 {
     let mut next = codes;
-    let mut i: usize = 0;
-    while i < p.terms {
+    for i in 0..p.terms {
         next[i] = other(p.sort[i] == sort, next[i], a, b);
-        i += 1;
     }
     next
 }
 
-// A model that keeps to the decided codes: where the model has a code at a term that nothing decided uses, the first such code takes its
-// place.
+// A model that keeps to the decided codes: where the model has a code at the plan's term that nothing decided uses, the first such code
+// takes its place.
 fn renamed(
     p: Parsed,
     sizes: [u8; MOST_SORTS],
     decided: [u8; BYTE_VALUES],
-    term: usize,
+    plan: &Choices,
     model: [u8; BYTE_VALUES],
-    fresh: usize,
-    flags: [u8; MOST_CODES],
 ) -> [u8; BYTE_VALUES]
     requires searchable { Searchable p }
     requires small_sizes { SmallSizes p (at sizes) }
-    requires term_lt_terms { term < p.terms }
-    requires consistent { Consistent (view p) (at sizes) (at model) }
-    requires extends { Extends (view p) (at decided) (at model) }
-    ensures consistent_2 { Consistent (view p) (at sizes) (at result) }
-    ensures extends_2 { Extends (view p) (at decided) (at result) }
+    requires term_lt_terms { plan.now.term < p.terms }
+    requires model { Model (view p) (at sizes) (at decided) (at model) }
+    ensures { Model (view p) (at sizes) (at decided) (at result) }
 {
-    let high = wide(model[term]);
+    let fresh = plan.fresh;
+    let high = wide(model[plan.term]);
     if high <= fresh || MOST_CODES <= high {
         return model;
     }
-    if flags[high] == 1 {
+    if plan.used[high] {
         return model;
     }
-    let next = exchanged(p, model, p.sort[term], fresh as u8, high as u8);
+    let next = exchanged(p, model, p.sort[plan.term], fresh as u8, high as u8);
     if !extends(p, decided, next) {
         return model;
     }
@@ -147,34 +118,24 @@ fn lower(
     requires searchable { Searchable p }
     requires small_sizes { SmallSizes p (at sizes) }
     requires term_lt_terms { (term < p.terms) × (at decided term ≡ undecided) }
-    requires consistent { Consistent (view p) (at sizes) (at model) }
-    requires extends { Extends (view p) (at decided) (at model) }
+    requires model { Model (view p) (at sizes) (at decided) (at model) }
     ensures { LeastAt (view p) (at sizes) (at decided) (at result) term }
 {
     if model[term] == 0 {
         return model;
     }
-    let n = solve::plan(p, sizes, decided, term);
-    if n.dead {
+    let Some(plan) = solve::plan(p, sizes, decided, term) else {
         return model;
-    }
-    let size = n.size;
-    let mask = n.mask;
-    let first = n.fresh;
-    let flags = n.used;
-    let best = renamed(p, sizes, decided, term, model, first, flags);
+    };
+    let best = renamed(p, sizes, decided, &plan, model);
     let high = wide(best[term]);
-    let mut v: usize = 0;
-    while v < high {
-        if solve::worth(size, mask, first, flags, v) {
-            let next = solve::decide(decided, term, v);
-            let r = solve::solve(p, sizes, next, weights);
-            if r.found {
-                let codes = r.codes;
+    for v in 0..high {
+        if plan.worth(v) {
+            let next = solve::decide(decided, plan.term, v);
+            if let Some(codes) = solve::solve(p, sizes, next, weights) {
                 return codes;
             }
         }
-        v += 1;
     }
     best
 }

@@ -9,11 +9,15 @@ use mathlib.Core.Option.{Option, none, some}
 use native.Mathlib.Decide.{dec_lt}
 use lib.ListN.{length, take, drop, length-take}
 use lib.Seq.{take-append-le}
+use Rattle.std.specs.Prelude.{Result, Ok, Err}
+use Rattle.prelude.specs.Causes.{number_of, refusal}
+use Rattle.prelude.specs.declared.refusal.Refusal.{Refusal}
 use Rattle.logic.specs.Sheet.{Sheet}
 use Rattle.logic.specs.WellFormed.{WellFormed}
 use Rattle.layout.specs.Layout.{Reading, accepted, refused, reading, InSheet}
 use Rattle.layout.specs.Encode.{encode}
 use Rattle.layout.proofs.Answers.{accepted_well_formed, refused_number}
+use Rattle.sheet.proofs.Refusals.{in_sheet, refused_in_sheet}
 use Rattle.tables.specs.Layout.{extent, encoded}
 use Rattle.prelude.specs.Lists.{fronted}
 use Rattle.answer.specs.Answer.{Entry, answer, sum, structure_of}
@@ -21,7 +25,6 @@ use Rattle.answer.specs.Demand.{Hopeless}
 use Rattle.answer.proofs.Demand.{demand}
 use Rattle.find_at.specs.Found.{ceilings}
 use Rattle.finder.specs.Find.{tables_after}
-use Rattle.find_at.specs.declared.Finding.TheVariants.{Found}
 use Rattle.prelude.proofs.Fronted.{front_fronted, rest_fronted}
 use Rattle.finder.proofs.Delivery.{exits, extended, written}
 use Rattle.fitted_sheet.specs.FittedSheet.{too_many}
@@ -29,7 +32,6 @@ use Rattle.fitted_sheet.specs.Kept.{fitted_to, Kept}
 use Rattle.fitted_sheet.proofs.Keeping.{fitted_kept}
 use Rattle.fitted.specs.Filing.{Filing, turned_down, filed, filing, outcome, fits, fitting, buffer_in, buffer_after}
 use Rattle.fitted.specs.Promise.{new_bytes, SameFound, Filed}
-use Rattle.fitted.specs.declared.Fitting.TheVariants.{Written, Refused}
 use Rattle.fitted.proofs.Filings.{outcome_refused, outcome_short, outcome_long, filing_passed, filing_few}
 
 -- what a filed sheet is: the fitted sheet of the answer, which passes no limit
@@ -83,21 +85,19 @@ record WroteSheet (s out : List ℕ) (n : ℕ) : Type 0 where
   long : length (encode new) ≡ n
   buffer : buffer_after s out ≡ fronted (encode new) out
 
-wrote : (s out : List ℕ) (n : ℕ) → fitting s (length out) ≡ Written n → WroteSheet s out n
+wrote : (s out : List ℕ) (n : ℕ) → fitting s (length out) ≡ Ok n → WroteSheet s out n
 unfolding fitting buffer_after
 wrote s out n e = step (outcome s (length out)) refl
   where
     step : (o : Filing) → outcome s (length out) ≡ o → WroteSheet s out n
     step (turned_down m i) q =
-        let r : Refused m i ≡ Written n = sym (ap fits q) ∙ e in
-        let z : ◌≡◌ {A = ℕ} 0 1 = cc in
-        absurd (omega arith)
+        let r : Err (refusal m i) ≡ Ok n = sym (ap fits q) ∙ e in cc
     step (filed new) q =
-        let r : Written (length (encode new)) ≡ Written n = sym (ap fits q) ∙ e in
+        let r : Ok (length (encode new)) ≡ Ok n = sym (ap fits q) ∙ e in
         record { new = new; files = q; long = cc; buffer = ap (λ (x : Filing). buffer_in x out) q }
 
 -- THEOREM: what is written is the fitted sheet, and finding on it gives the same
-pub files_kept : (s out : List ℕ) (n : ℕ) → fitting s (length out) ≡ Written n → Filed s out n
+pub files_kept : (s out : List ℕ) (n : ℕ) → fitting s (length out) ≡ Ok n → Filed s out n
 files_kept s out n e =
     record {
       sheet = sh;
@@ -153,7 +153,7 @@ files_kept s out n e =
         let E = encoded (structure_of sh f.entry) sh in
         let E' = encoded (structure_of new k.found) new in
         record {
-          sum = now'.result ∙ ap (λ (l : List ℕ). Found (sum l)) k.sizes ∙ sym old.result;
+          sum = now'.result ∙ ap (λ (l : List ℕ). Ok (sum l)) k.sizes ∙ sym old.result;
           tables =
               ap (λ (m : ℕ). take m (tables_after (new_bytes s out n) cs' ts')) (extended sh formed s cs ts f.reads a b f.entry f.answers)
               ∙ ap (take (length E)) now'.tables
@@ -162,69 +162,90 @@ files_kept s out n e =
               ∙ sym (written sh formed s cs ts f.reads a b f.entry f.answers);
         }
 
--- THEOREM: which numbers it refuses with, and that the place is 0 from 10 on
-pub refusal_number_lem : (s : List ℕ) (room n i : ℕ) → fitting s room ≡ Refused n i → InSheet n ⊎ (((n ≡ 10) ⊎ ((n ≡ 11) ⊎ (n ≡ 14))) × (i ≡ 0))
+-- the number with which a call is turned down is that of its cause
+pub turned_down_known : (s : List ℕ) (room m j : ℕ) → outcome s room ≡ turned_down m j → number_of (refusal m j).cause ≡ m
+turned_down_known s room m j o = by_reading (reading s) refl
+  where
+    Known : Type 0
+    Known = number_of (refusal m j).cause ≡ m
+
+    show : (n i : ℕ) → number_of (refusal n 0).cause ≡ n → outcome s room ≡ turned_down n i → Known
+    show n i known q =
+        let z : turned_down n i ≡ turned_down m j = sym q ∙ o in
+        let same : n ≡ m = cc in
+        subst (λ (x : ℕ). number_of (refusal x 0).cause ≡ x) same known
+
+    by_limits : (sh : Sheet) (x : Entry) → outcome s room ≡ filing sh (some x) → (b : Bool) → too_many (fitted_to sh x) ≡ b → Known
+    by_limits sh x q true t = show 14 0 refl (q ∙ filing_passed sh x (sym t))
+    by_limits sh x q false t = absurd (not_filed m j (fitted_to sh x) (sym o ∙ q ∙ filing_few sh x t))
+
+    by_answer : (sh : Sheet) (a : Option Entry) → outcome s room ≡ filing sh a → Known
+    by_answer sh none q = show 11 0 refl q
+    by_answer sh (some x) q = by_limits sh x q (too_many (fitted_to sh x)) refl
+
+    by_reading : (t : Reading) → reading s ≡ t → Known
+    by_reading (refused n i) t = show n i (in_sheet n (refused_number s n i t)) (outcome_refused s n i room t)
+    by_reading (accepted sh) t =
+        elim (dec_lt room 2161) [
+          | yes h ↦ show 10 0 refl (outcome_short s sh room t h)
+          | no h ↦ by_answer sh (answer sh) (outcome_long s sh (answer sh) room t (omega arith) refl)
+        ]
+
+-- THEOREM: which causes it refuses with, and that the place is 0 from 10 on
+pub refusal_number_lem : (s : List ℕ) (room : ℕ) (r : Refusal) → fitting s room ≡ Err r → InSheet (number_of r.cause) ⊎ (((number_of r.cause ≡ 10) ⊎ ((number_of r.cause ≡ 11) ⊎ (number_of r.cause ≡ 14))) × (r.place ≡ 0))
 unfolding fitting
-refusal_number_lem s room n i e = by_reading (reading s) refl
+refusal_number_lem s room r e = by_reading (reading s) refl
   where
     Listed : Type 0
-    Listed = InSheet n ⊎ (((n ≡ 10) ⊎ ((n ≡ 11) ⊎ (n ≡ 14))) × (i ≡ 0))
+    Listed = InSheet (number_of r.cause) ⊎ (((number_of r.cause ≡ 10) ⊎ ((number_of r.cause ≡ 11) ⊎ (number_of r.cause ≡ 14))) × (r.place ≡ 0))
 
     -- a call that was turned down says so
-    numbers : (m j : ℕ) → outcome s room ≡ turned_down m j → (n ≡ m) × (i ≡ j)
-    numbers m j q = let r : Refused n i ≡ Refused m j = sym e ∙ ap fits q in (cc, cc)
+    same : (m j : ℕ) → outcome s room ≡ turned_down m j → r ≡ refusal m j
+    same m j q = let z : ◌≡◌ {A = Result ℕ Refusal} (Err r) (Err (refusal m j)) = sym e ∙ ap fits q in cc
 
     by_limits : (sh : Sheet) (x : Entry) → outcome s room ≡ filing sh (some x) → (b : Bool) → too_many (fitted_to sh x) ≡ b → Listed
-    by_limits sh x q true t = let y = numbers 14 0 (q ∙ filing_passed sh x (sym t)) in inr (inr (inr y.0), y.1)
+    by_limits sh x q true t = rw (same 14 0 (q ∙ filing_passed sh x (sym t))) (inr (inr (inr refl), refl))
     by_limits sh x q false t =
-        let r : Refused n i ≡ Written (length (encode (fitted_to sh x))) = sym e ∙ ap fits (q ∙ filing_few sh x t) in
-        let z : ◌≡◌ {A = ℕ} 0 1 = cc in
-        absurd (omega arith)
+        let z : ◌≡◌ {A = Result ℕ Refusal} (Err r) (Ok (length (encode (fitted_to sh x)))) = sym e ∙ ap fits (q ∙ filing_few sh x t) in cc
 
     by_answer : (sh : Sheet) → reading s ≡ accepted sh → 2161 ≤ room → (a : Option Entry) → answer sh ≡ a → Listed
-    by_answer sh r h none a = let y = numbers 11 0 (outcome_long s sh none room r h a) in inr (inr (inl y.0), y.1)
-    by_answer sh r h (some x) a = by_limits sh x (outcome_long s sh (some x) room r h a) (too_many (fitted_to sh x)) refl
+    by_answer sh t h none a = rw (same 11 0 (outcome_long s sh none room t h a)) (inr (inr (inl refl), refl))
+    by_answer sh t h (some x) a = by_limits sh x (outcome_long s sh (some x) room t h a) (too_many (fitted_to sh x)) refl
 
-    by_reading : (r : Reading) → reading s ≡ r → Listed
-    by_reading (refused m j) r =
-        let y = numbers m j (outcome_refused s m j room r) in
-        inl (subst InSheet (sym y.0) (refused_number s m j r))
-    by_reading (accepted sh) r =
+    by_reading : (t : Reading) → reading s ≡ t → Listed
+    by_reading (refused m j) t = rw (same m j (outcome_refused s m j room t)) (inl (refused_in_sheet s m j t))
+    by_reading (accepted sh) t =
         elim (dec_lt room 2161) [
-          | yes h ↦ let y = numbers 10 0 (outcome_short s sh room r h) in inr (inl y.0, y.1)
-          | no h ↦ by_answer sh r (omega arith) (answer sh) refl
+          | yes h ↦ rw (same 10 0 (outcome_short s sh room t h)) (inr (inl refl, refl))
+          | no h ↦ by_answer sh t (omega arith) (answer sh) refl
         ]
 
 -- THEOREM: a refused call leaves the buffer as it was
-pub refused_untouched : (s out : List ℕ) (n i : ℕ) → fitting s (length out) ≡ Refused n i → buffer_after s out ≡ out
+pub refused_untouched : (s out : List ℕ) (r : Refusal) → fitting s (length out) ≡ Err r → buffer_after s out ≡ out
 unfolding fitting buffer_after
-refused_untouched s out n i e = step (outcome s (length out)) refl
+refused_untouched s out r e = step (outcome s (length out)) refl
   where
     step : (o : Filing) → outcome s (length out) ≡ o → buffer_in (outcome s (length out)) out ≡ out
     step (turned_down m j) q = ap (λ (x : Filing). buffer_in x out) q
-    step (filed new) q =
-        let r : Written (length (encode new)) ≡ Refused n i = sym (ap fits q) ∙ e in
-        let z : ◌≡◌ {A = ℕ} 0 1 = cc in
-        absurd (omega arith)
+    step (filed new) q = let z : Ok (length (encode new)) ≡ Err r = sym (ap fits q) ∙ e in cc
 
 -- THEOREM: cause 11 exactly when no candidate satisfies every statement, where the sheet is accepted and the buffer suffices
-pub eleven_exactly : (s : List ℕ) (sh : Sheet) (room : ℕ) → reading s ≡ accepted sh → 2161 ≤ room → (fitting s room ≡ Refused 11 0) ↔ Hopeless sh
+pub eleven_exactly : (s : List ℕ) (sh : Sheet) (room : ℕ) → reading s ≡ accepted sh → 2161 ≤ room → (fitting s room ≡ Err (refusal 11 0)) ↔ Hopeless sh
 unfolding fitting
 eleven_exactly s sh room q h = (λ f. (demand sh formed).refuses.0 (none_by (answer sh) refl f), λ n. ap fits (outcome_long s sh none room q h ((demand sh formed).refuses.1 n)))
   where
     formed : WellFormed sh
     formed = accepted_well_formed s sh q
 
-    other : (e : Entry) (b : Bool) → too_many (fitted_to sh e) ≡ b → fits (filing sh (some e)) ≡ Refused 11 0 → ⊥
+    other : (e : Entry) (b : Bool) → too_many (fitted_to sh e) ≡ b → fits (filing sh (some e)) ≡ Err (refusal 11 0) → ⊥
     other e true t f =
-        let r : Refused 14 0 ≡ Refused 11 0 = sym (ap fits (filing_passed sh e (sym t))) ∙ f in
-        let z : ◌≡◌ {A = ℕ} 14 11 = cc in
+        let r : ◌≡◌ {A = Result ℕ Refusal} (Err (refusal 14 0)) (Err (refusal 11 0)) = sym (ap fits (filing_passed sh e (sym t))) ∙ f in
+        let z : refusal 14 0 ≡ refusal 11 0 = cc in
+        let n : ◌≡◌ {A = ℕ} 14 11 = ap (λ (x : Refusal). number_of x.cause) z in
         omega arith
     other e false t f =
-        let r : Written (length (encode (fitted_to sh e))) ≡ Refused 11 0 = sym (ap fits (filing_few sh e t)) ∙ f in
-        let z : ◌≡◌ {A = ℕ} 0 1 = cc in
-        omega arith
+        let r : Ok (length (encode (fitted_to sh e))) ≡ Err (refusal 11 0) = sym (ap fits (filing_few sh e t)) ∙ f in cc
 
-    none_by : (a : Option Entry) → answer sh ≡ a → fits (outcome s room) ≡ Refused 11 0 → answer sh ≡ none
+    none_by : (a : Option Entry) → answer sh ≡ a → fits (outcome s room) ≡ Err (refusal 11 0) → answer sh ≡ none
     none_by none a f = a
     none_by (some e) a f = absurd (other e (too_many (fitted_to sh e)) refl (sym (ap fits (outcome_long s sh (some e) room q h a)) ∙ f))

@@ -6,6 +6,9 @@ use mathlib.Core.Logic.{◌⊎◌, inl, inr}
 use mathlib.Core.List.{List}
 use mathlib.Core.Option.{none, some}
 use lib.ListN.{length, drop, length-append, get_or-append}
+use Rattle.std.specs.Prelude.{Result, Ok, Err}
+use Rattle.prelude.specs.Causes.{refusal}
+use Rattle.prelude.specs.declared.refusal.Refusal.{Refusal}
 use Rattle.prelude.specs.Lists.{at, fronted}
 use Rattle.prelude.proofs.Lists.{sum_to_grows}
 use Rattle.logic.specs.Sheet.{Sheet, symbol_at}
@@ -27,8 +30,6 @@ use Rattle.answer.proofs.Demand.{demand}
 use Rattle.sheet.specs.Verdict.{ReadFrom}
 use Rattle.find_at.specs.Found.{ceilings}
 use Rattle.finder.specs.Find.{Finds}
-use Rattle.find_at.specs.declared.Finding.{Finding}
-use Rattle.find_at.specs.declared.Finding.TheVariants.{Found, Refused}
 use Rattle.finder.proofs.Outcomes.{outcome_long}
 use Rattle.finder.proofs.Buffers.{exit}
 use Rattle.judge.proofs.Questions.{read_packs}
@@ -85,22 +86,22 @@ module _ (p : Parsed) (n : ℕ) (tables : List ℕ) (a : Answered p n tables) wh
       }
 
 -- what find says of a sheet, with buffers that always suffice: no answer, or the answer with its sum, its tables in front
-record Reported (p : Parsed) (q : ReadFrom p) (tables tables' : List ℕ) (r : Finding) (e : Entry) : Type 0 where
+record Reported (p : Parsed) (q : ReadFrom p) (tables tables' : List ℕ) (r : Result ℕ Refusal) (e : Entry) : Type 0 where
   answers : answer q.sheet ≡ some e
-  found : r ≡ Found (sum_of (structure_of q.sheet e) q.sheet)
+  found : r ≡ Ok (sum_of (structure_of q.sheet e) q.sheet)
   front : tables' ≡ fronted (encoded (structure_of q.sheet e) q.sheet) tables
 
-module _ (p : Parsed) (q : ReadFrom p) (cs ts cs' ts' : List ℕ) (r : Finding) (many : length cs ≡ 128) (long : length ts ≡ 16392) (f : Finds q.bytes cs ts cs' ts' r) where
+module _ (p : Parsed) (q : ReadFrom p) (cs ts cs' ts' : List ℕ) (r : Result ℕ Refusal) (many : length cs ≡ 128) (long : length ts ≡ 16392) (f : Finds q.bytes cs ts cs' ts' r) where
   formed : WellFormed q.sheet
   formed = accepted_well_formed q.bytes q.sheet q.reads
 
-  reported : ((answer q.sheet ≡ none) × (r ≡ Refused 11 0)) ⊎ ((e : Entry) × Reported p q ts ts' r e)
+  reported : ((answer q.sheet ≡ none) × (r ≡ Err (refusal 11 0))) ⊎ ((e : Entry) × Reported p q ts ts' r e)
   reported = step (found_or_none (answer q.sheet))
     where
       room : extent q.sheet (ceilings q.sheet) ≤ length ts
       room = omega (arith, extent_few q.sheet formed (ceilings q.sheet) (λ s h. (formed.ceiling s h).1))
 
-      step : (answer q.sheet ≡ none) ⊎ ((e : Entry) × (answer q.sheet ≡ some e)) → ((answer q.sheet ≡ none) × (r ≡ Refused 11 0)) ⊎ ((e : Entry) × Reported p q ts ts' r e)
+      step : (answer q.sheet ≡ none) ⊎ ((e : Entry) × (answer q.sheet ≡ some e)) → ((answer q.sheet ≡ none) × (r ≡ Err (refusal 11 0))) ⊎ ((e : Entry) × Reported p q ts ts' r e)
       step (inl z) =
           let x = exit q.bytes cs ts _ (outcome_long q.bytes q.sheet none (length cs) (length ts) q.reads (omega (arith, formed.terms)) room z) in
           inl (z, f.result ∙ x.result)
@@ -110,27 +111,27 @@ module _ (p : Parsed) (q : ReadFrom p) (cs ts cs' ts' : List ℕ) (r : Finding) 
             z.0,
             record {
               answers = z.1;
-              found = f.result ∙ x.result ∙ ap Found (sym ((demand q.sheet formed).finds z.0 z.1).sum);
+              found = f.result ∙ x.result ∙ ap Ok (sym ((demand q.sheet formed).finds z.0 z.1).sum);
               front = f.tables ∙ x.tables;
             },
           )
 
   -- so a refusal is cause 11, as there is no answer
-  pub report_refused : (n i : ℕ) → r ≡ Refused n i → (answer q.sheet ≡ none) × (n ≡ 11) × (i ≡ 0)
-  report_refused n i e = step reported
+  pub report_refused : (x : Refusal) → r ≡ Err x → (answer q.sheet ≡ none) × (x ≡ refusal 11 0)
+  report_refused x e = step reported
     where
-      step : ((answer q.sheet ≡ none) × (r ≡ Refused 11 0)) ⊎ ((x : Entry) × Reported p q ts ts' r x) → (answer q.sheet ≡ none) × (n ≡ 11) × (i ≡ 0)
-      step (inl z) = let y : Refused n i ≡ Refused 11 0 = sym e ∙ z.1 in (z.0, cc, cc)
-      step (inr z) = let y : Refused n i ≡ Found _ = sym e ∙ z.1.found in let o : ◌≡◌ {A = ℕ} 0 1 = cc in absurd (omega arith)
+      step : ((answer q.sheet ≡ none) × (r ≡ Err (refusal 11 0))) ⊎ ((y : Entry) × Reported p q ts ts' r y) → (answer q.sheet ≡ none) × (x ≡ refusal 11 0)
+      step (inl z) = let y : ◌≡◌ {A = Result ℕ Refusal} (Err x) (Err (refusal 11 0)) = sym e ∙ z.1 in (z.0, cc)
+      step (inr z) = let y : Err x ≡ Ok _ = sym e ∙ z.1.found in cc
 
   -- and what is found is the answer, with its sum and its tables
-  pub report_found : (n : ℕ) → r ≡ Found n → (a : Answered p n ts') × (a.sheet ≡ q.sheet)
+  pub report_found : (n : ℕ) → r ≡ Ok n → (a : Answered p n ts') × (a.sheet ≡ q.sheet)
   report_found n e = step reported
     where
-      step : ((answer q.sheet ≡ none) × (r ≡ Refused 11 0)) ⊎ ((x : Entry) × Reported p q ts ts' r x) → (a : Answered p n ts') × (a.sheet ≡ q.sheet)
-      step (inl z) = let y : Found n ≡ Refused 11 0 = sym e ∙ z.1 in let o : ◌≡◌ {A = ℕ} 0 1 = cc in absurd (omega arith)
+      step : ((answer q.sheet ≡ none) × (r ≡ Err (refusal 11 0))) ⊎ ((x : Entry) × Reported p q ts ts' r x) → (a : Answered p n ts') × (a.sheet ≡ q.sheet)
+      step (inl z) = let y : Ok n ≡ Err (refusal 11 0) = sym e ∙ z.1 in cc
       step (inr z) =
-          let y : Found n ≡ Found (sum_of (structure_of q.sheet z.0) q.sheet) = sym e ∙ z.1.found in (
+          let y : Ok n ≡ Ok (sum_of (structure_of q.sheet z.0) q.sheet) = sym e ∙ z.1.found in (
             record {
               sheet = q.sheet;
               entry = z.0;

@@ -1,6 +1,8 @@
 -- Interface. What "fitted" gives back for every call, and what the buffer holds afterwards (docs/FORMAT.md, "The questions" and "Refusals").
-use Rattle.std.specs.Prelude.{ℕ, ◌≡◌, true, false, List, length, ltb}
+use Rattle.std.specs.Prelude.{ℕ, ◌≡◌, true, false, List, length, ltb, Result, Ok, Err}
 use Rattle.std.proofs.Math.Option.{Option, none, some}
+use Rattle.prelude.specs.Causes.{refusal}
+use Rattle.prelude.specs.declared.refusal.Refusal.{Refusal}
 use Rattle.prelude.specs.Limits.{most_written_bytes}
 use Rattle.prelude.specs.Lists.{fronted}
 use Rattle.logic.specs.Sheet.{Sheet}
@@ -8,8 +10,6 @@ use Rattle.layout.specs.Layout.{Reading, accepted, refused, reading}
 use Rattle.layout.specs.Encode.{encode}
 use Rattle.answer.specs.Answer.{Entry, answer, structure_of}
 use Rattle.fitted_sheet.specs.FittedSheet.{fitted_sheet, too_many}
-use Rattle.fitted.specs.declared.Fitting.{Fitting}
-use Rattle.fitted.specs.declared.Fitting.TheVariants.{Written, Refused}
 
 -- a call is turned down with a number and a place, or a sheet is filed
 pub data Filing : Type 0 where
@@ -35,11 +35,11 @@ unfoldable pub outcome : List ℕ → ℕ → Filing
 outcome s room = consider (reading s) room
 
 -- THE RESULT: the length of the new sheet, or the refusal
-abbrev pub fits : Filing → Fitting
-fits (turned_down n i) = Refused n i
-fits (filed new) = Written (length (encode new))
+abbrev pub fits : Filing → Result ℕ Refusal
+fits (turned_down n i) = Err (refusal n i)
+fits (filed new) = Ok (length (encode new))
 
-unfoldable pub fitting : List ℕ → ℕ → Fitting
+unfoldable pub fitting : List ℕ → ℕ → Result ℕ Refusal
 fitting s room = fits (outcome s room)
 
 -- THE BUFFER at exit, from the sheet's bytes and the buffer at entry
@@ -51,6 +51,6 @@ unfoldable pub buffer_after : List ℕ → List ℕ → List ℕ
 buffer_after s out = buffer_in (outcome s (length out)) out
 
 -- WHAT FITTED PROMISES of a call on the bytes s, both clauses of its contract. A primed buffer is the buffer at exit.
-pub record Files (s out out' : List ℕ) (r : Fitting) : Type 0 where
+pub record Files (s out out' : List ℕ) (r : Result ℕ Refusal) : Type 0 where
   pub result : r ≡ fitting s (length out)
   pub buffer : out' ≡ buffer_after s out

@@ -4,11 +4,14 @@ use Prim.Native.Nat.{ℕ, ◌≤◌, ◌<◌}
 use native.Mathlib.Decide.{dec_lt}
 use native.Mathlib.Omega.{arith}
 use mathlib.Core.Path.{◌≡◌, refl, ap, sym, ◌∙◌, subst}
-use mathlib.Core.Bool.{Bool, true, false, cond}
+use mathlib.Core.Bool.{Bool, true, false}
 use mathlib.Core.Logic.{◌↔◌}
 use mathlib.Core.List.{List}
 use lib.ListN.{length}
 use borrow.Author.Tests.{ltb-true, eq-eqb, eqb-true}
+use Rattle.std.specs.Prelude.{Result, Ok, Err}
+use Rattle.prelude.specs.Causes.{refusal}
+use Rattle.prelude.specs.declared.refusal.Refusal.{Refusal}
 use Rattle.logic.specs.Sheet.{Sheet}
 use Rattle.prelude.proofs.Tests.{and_both}
 use Rattle.layout.specs.Layout.{Reading, accepted, refused, reading}
@@ -16,10 +19,8 @@ use Rattle.layout.proofs.Answers.{accepted_well_formed}
 use Rattle.congruence.specs.Closure.{group_of, together}
 use Rattle.congruence.proofs.Structures.{forced_one_sort}
 use Rattle.congruence.proofs.Closing.{together_exactly}
-use Rattle.group.specs.declared.Grouping.TheVariants.{Group}
 use Rattle.group.specs.Grouping.{grouping}
 use Rattle.group.proofs.Replies.{named, answer_exactly, number_named}
-use Rattle.forced.specs.declared.Forcing.TheVariants.{Yes, No, Refused}
 use Rattle.forced.specs.Forcing.{comparable, forcing_of, forcing}
 use Rattle.forced.proofs.Replies.{one_group, turned_down_lem, decided}
 
@@ -31,7 +32,7 @@ record Tied (s : List ℕ) (a b : ℕ) : Type 0 where
   second : b < length sheet.terms
   number : group_of sheet a ≡ group_of sheet b
 
-yes_tied : (s : List ℕ) (a b : ℕ) → forcing s a b ≡ Yes → Tied s a b
+yes_tied : (s : List ℕ) (a b : ℕ) → forcing s a b ≡ Ok true → Tied s a b
 unfolding forcing
 yes_tied s a b y = by (reading s) refl
   where
@@ -46,23 +47,20 @@ yes_tied s a b y = by (reading s) refl
           number = eqb-true _ _ t;
         }
     go sh q true false c t =
-        let z : No ≡ Yes = ap (λ (x : Bool). cond x Yes No) (sym t) ∙ sym (decided s sh q a b c) ∙ y in
-        let never : ◌≡◌ {A = ℕ} 0 1 = cc in
-        absurd (omega arith)
+        let z : ◌≡◌ {A = Result Bool Refusal} (Ok false) (Ok true) = ap Ok (sym t) ∙ sym (decided s sh q a b c) ∙ y in
+        absurd cc
     go sh q false x c t =
-        let z : Refused 13 0 ≡ Yes = sym (turned_down_lem s sh q a b c) ∙ y in
-        let never : ◌≡◌ {A = ℕ} 0 1 = cc in
-        absurd (omega arith)
+        let z : Err (refusal 13 0) ≡ Ok true = sym (turned_down_lem s sh q a b c) ∙ y in
+        absurd cc
 
     by : (R : Reading) → reading s ≡ R → Tied s a b
     by (accepted sh) q = go sh q (comparable sh a b) (together sh a b) refl refl
     by (refused n i) q =
-        let z : Refused n i ≡ Yes = sym (ap (λ (R : Reading). forcing_of R a b) q) ∙ y in
-        let never : ◌≡◌ {A = ℕ} 0 1 = cc in
-        absurd (omega arith)
+        let z : Err (refusal n i) ≡ Ok true = sym (ap (λ (R : Reading). forcing_of R a b) q) ∙ y in
+        absurd cc
 
 -- they are of one sort, as some structure tells terms of two sorts apart
-tied_yes : (s : List ℕ) (a b : ℕ) → Tied s a b → forcing s a b ≡ Yes
+tied_yes : (s : List ℕ) (a b : ℕ) → Tied s a b → forcing s a b ≡ Ok true
 tied_yes s a b t =
     let sh = t.sheet in
     let w = accepted_well_formed s sh t.reads in
@@ -70,15 +68,15 @@ tied_yes s a b t =
     sym (one_group s sh t.reads a b t.first t.second (forced_one_sort sh w a b t.first t.second forced) t.number)
 
 -- THEOREM: forced compares the numbers of two groups
-pub yes_one_number : (s : List ℕ) (a b : ℕ) → (forcing s a b ≡ Yes) ↔ ((k : ℕ) × (grouping s a ≡ Group k) × (grouping s b ≡ Group k))
+pub yes_one_number : (s : List ℕ) (a b : ℕ) → (forcing s a b ≡ Ok true) ↔ ((k : ℕ) × (grouping s a ≡ Ok k) × (grouping s b ≡ Ok k))
 yes_one_number s a b = (to, from)
   where
-    to : forcing s a b ≡ Yes → (k : ℕ) × (grouping s a ≡ Group k) × (grouping s b ≡ Group k)
+    to : forcing s a b ≡ Ok true → (k : ℕ) × (grouping s a ≡ Ok k) × (grouping s b ≡ Ok k)
     to y =
         let t = yes_tied s a b y in
-        (group_of t.sheet a, named s t.sheet t.reads a t.first, named s t.sheet t.reads b t.second ∙ ap Group (sym t.number))
+        (group_of t.sheet a, named s t.sheet t.reads a t.first, named s t.sheet t.reads b t.second ∙ ap Ok (sym t.number))
 
-    from : (k : ℕ) × (grouping s a ≡ Group k) × (grouping s b ≡ Group k) → forcing s a b ≡ Yes
+    from : (k : ℕ) × (grouping s a ≡ Ok k) × (grouping s b ≡ Ok k) → forcing s a b ≡ Ok true
     from g =
         let u = number_named s a g.0 g.1 in
         let v = number_named s b g.0 g.2 in
@@ -94,7 +92,7 @@ yes_one_number s a b = (to, from)
         })
 
 -- a group's number is not above that of any of its terms, and forced says yes for it
-module _ (s : List ℕ) (e k : ℕ) (g : grouping s e ≡ Group k) where
+module _ (s : List ℕ) (e k : ℕ) (g : grouping s e ≡ Ok k) where
   pub not_above : k ≤ e
   not_above =
       let u = number_named s e k g in
@@ -104,7 +102,7 @@ module _ (s : List ℕ) (e k : ℕ) (g : grouping s e ≡ Group k) where
         | no h ↦ omega arith
       ]
 
-  own_yes : forcing s k e ≡ Yes
+  own_yes : forcing s k e ≡ Ok true
   own_yes =
       let u = number_named s e k g in
       let sh = u.sheet in
@@ -113,21 +111,21 @@ module _ (s : List ℕ) (e k : ℕ) (g : grouping s e ≡ Group k) where
       tied_yes s k e (record { sheet = sh; reads = u.reads; first = r.there; second = u.there; number = eqb-true _ _ both })
 
 -- THEOREM: the number that group gives is the lowest that forced ties to the term
-pub lowest_yes : (s : List ℕ) (e k : ℕ) → (grouping s e ≡ Group k) ↔ ((forcing s k e ≡ Yes) × ((j : ℕ) → j < k → forcing s j e ≡ Yes → ⊥))
+pub lowest_yes : (s : List ℕ) (e k : ℕ) → (grouping s e ≡ Ok k) ↔ ((forcing s k e ≡ Ok true) × ((j : ℕ) → j < k → forcing s j e ≡ Ok true → ⊥))
 lowest_yes s e k = (to, from)
   where
-    one : (m n : ℕ) → grouping s e ≡ Group m → grouping s e ≡ Group n → m ≡ n
-    one m n x y = let z : Group m ≡ Group n = sym x ∙ y in cc
+    one : (m n : ℕ) → grouping s e ≡ Ok m → grouping s e ≡ Ok n → m ≡ n
+    one m n x y = let z : ◌≡◌ {A = Result ℕ Refusal} (Ok m) (Ok n) = sym x ∙ y in cc
 
-    to : grouping s e ≡ Group k → (forcing s k e ≡ Yes) × ((j : ℕ) → j < k → forcing s j e ≡ Yes → ⊥)
+    to : grouping s e ≡ Ok k → (forcing s k e ≡ Ok true) × ((j : ℕ) → j < k → forcing s j e ≡ Ok true → ⊥)
     to g = (own_yes s e k g, λ j h y. let t = (yes_one_number s j e).0 y in omega (arith, not_above s j t.0 t.1, one t.0 k t.2 g))
 
-    from : (forcing s k e ≡ Yes) × ((j : ℕ) → j < k → forcing s j e ≡ Yes → ⊥) → grouping s e ≡ Group k
+    from : (forcing s k e ≡ Ok true) × ((j : ℕ) → j < k → forcing s j e ≡ Ok true → ⊥) → grouping s e ≡ Ok k
     from h =
         let t = (yes_one_number s k e).0 h.0 in
         let m = t.0 in
         let under = not_above s k m t.1 in
         elim (dec_lt m k) [
           | yes less ↦ absurd (h.1 m less (own_yes s e m t.2))
-          | no same ↦ let q : m ≡ k = omega arith in t.2 ∙ ap Group q
+          | no same ↦ let q : m ≡ k = omega arith in t.2 ∙ ap Ok q
         ]

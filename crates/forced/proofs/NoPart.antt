@@ -1,7 +1,7 @@
 -- Floors, ceilings, total, differ statements and fills play no part: accepted sheets with the same symbols, terms and same statements are answered alike.
 use Prim.Native.Nat.{ℕ}
 use mathlib.Core.Path.{◌≡◌, refl, ap₂, sym, ◌∙◌}
-use mathlib.Core.Bool.{Bool, true, false, ◌&&◌, cond}
+use mathlib.Core.Bool.{Bool, true, false, ◌&&◌}
 use mathlib.Core.List.{List}
 use lib.ListN.{length, get_or}
 use lib.Dec.{ltb, eqb}
@@ -13,7 +13,7 @@ use Rattle.layout.specs.Encode.{encode}
 use Rattle.layout.proofs.Answers.{accepted_well_formed, unfilled_read}
 use Rattle.congruence.specs.Forced.{SameStatements}
 use Rattle.congruence.proofs.NoPart.{group_alike, without_fills_lem}
-use Rattle.forced.specs.declared.Forcing.TheVariants.{Yes, No}
+use Rattle.std.specs.Prelude.{Ok}
 use Rattle.forced.specs.Forcing.{comparable, forcing}
 use Rattle.forced.proofs.Replies.{turned_down_lem, decided}
 
@@ -38,7 +38,7 @@ module _ (sh other : Sheet) (same : SameStatements sh other) where
           let first = alike a (ltb-true _ _ there.0) in
           let second = alike b (ltb-true _ _ (and_both _ _ there.1).0) in
           decided s sh e a b h
-          ∙ ap₂ (λ x y. cond (eqb x y) Yes No) first second
+          ∙ ap₂ (λ x y. Ok (eqb x y)) first second
           ∙ sym (decided t other d a b (sym (comparable_alike a b) ∙ h))
       go false h = turned_down_lem s sh e a b h ∙ sym (turned_down_lem t other d a b (sym (comparable_alike a b) ∙ h))
 

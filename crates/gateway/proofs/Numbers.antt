@@ -2,12 +2,15 @@
 use Prim.Native.Nat.{ℕ, ◌≤◌, ◌<◌}
 use native.Mathlib.Decide.{dec_le}
 use native.Mathlib.Omega.{arith}
-use mathlib.Core.Path.{◌≡◌, refl}
+use mathlib.Core.Path.{◌≡◌, refl, ap}
 use mathlib.Core.Bool.{Bool, true, false}
 use mathlib.Core.List.{List}
 use mathlib.Core.Option.{Option, none, some}
 use lib.ListN.{length}
 use lib.Dec.{ltb}
+use Rattle.std.specs.Prelude.{Ok, Err}
+use Rattle.prelude.specs.Causes.{refusal}
+use Rattle.prelude.specs.declared.refusal.Refusal.{Refusal}
 use Rattle.layout.specs.Layout.{Reading, accepted, refused, reading}
 use Rattle.layout.proofs.Answers.{refused_place, accepted_well_formed}
 use Rattle.layout.proofs.Records.{reading_long}
@@ -16,15 +19,13 @@ use Rattle.answer.specs.Answer.{Entry, answer, answer_at, sum}
 use Rattle.answer.specs.Demand.{CandidateSizes}
 use Rattle.answer.proofs.Demand.{accepted_demand, accepted_demand_at}
 use Rattle.sizes.specs.Sizing.{Outcome as Sizing-as-Outcome, answering as Sizing·answering, consider as Sizing·consider, outcome as Sizing·outcome, gives, sizing}
-use Rattle.sizes.specs.declared.Sizing.{Sizing}
-use Rattle.sizes.specs.declared.Sizing.TheVariants as sized
 use Rattle.find_at.specs.Found.{Outcome, short, answering, finds}
 use Rattle.find_at.specs.FindAt.{candidate_sizes, consider_at, outcome_at, finding_at}
 use Rattle.find_at.proofs.Sizes.{candidate_sizes_test}
 use Rattle.finder.specs.Find.{consider, outcome, finding}
 use Rattle.judge.specs.Judge.{judgement, judged_of}
 use Rattle.judge.proofs.Judged.{judged_says}
-use Rattle.tables.specs.declared.Judgement.TheVariants.{Broken, Refused}
+use Rattle.tables.specs.declared.Judgement.TheVariants.{Broken}
 use Rattle.gateway.specs.Number.{Small}
 
 -- a refused sheet's place is small
@@ -35,21 +36,23 @@ reading_place s n i e = by (dec_le (length s) 4096)
     by (yes h) = omega (arith, refused_place s n i e)
     by (no h) = let z : i ≡ 0 = cc (reading_long s (omega arith)) in omega arith
 
-pub judge_place : (s t : List ℕ) (n i : ℕ) → judgement s t ≡ Refused n i → i < 65536
+pub judge_place : (s t : List ℕ) (r : Refusal) → judgement s t ≡ Err r → r.place < 65536
 unfolding judgement
-judge_place s t n i e = by (reading s) refl e
+judge_place s t r e = by (reading s) refl e
   where
-    by : (r : Reading) → reading s ≡ r → judged_of r t ≡ Refused n i → i < 65536
-    by (accepted sh) q z = omega (arith, ((judged_says sh t (Refused n i)).0 z).1)
-    by (refused m j) q z = let same : j ≡ i = cc in omega (arith, reading_place s m j q)
+    by : (x : Reading) → reading s ≡ x → judged_of x t ≡ Err r → r.place < 65536
+    by (accepted sh) q z = omega (arith, ((judged_says sh t (Err r)).0 z).1)
+    by (refused m j) q z =
+        let same : refusal m j ≡ r = cc in
+        omega (arith, reading_place s m j q, ap (λ (y : Refusal). y.place) same)
 
-pub judge_broken : (s t : List ℕ) (k : ℕ) → judgement s t ≡ Broken k → k < 128
+pub judge_broken : (s t : List ℕ) (k : ℕ) → judgement s t ≡ Ok (Broken k) → k < 128
 unfolding judgement
 judge_broken s t k e = by (reading s) refl e
   where
-    by : (r : Reading) → reading s ≡ r → judged_of r t ≡ Broken k → k < 128
-    by (accepted sh) q z = omega (arith, ((judged_says sh t (Broken k)).0 z).2, (accepted_well_formed s sh q).literals)
-    by (refused m j) q z = let never : ◌≡◌ {A = ℕ} 0 1 = cc in omega arith
+    by : (r : Reading) → reading s ≡ r → judged_of r t ≡ Ok (Broken k) → k < 128
+    by (accepted sh) q z = omega (arith, ((judged_says sh t (Ok (Broken k))).0 z).2, (accepted_well_formed s sh q).literals)
+    by (refused m j) q z = cc
 
 -- Find, sizes and find_at go the same way: a refused sheet, then refusals whose place is 0, then the sum of an answer. P holds of what comes of a call
 -- where it holds of each of these.
@@ -101,15 +104,11 @@ find_at_small s z nc nt =
     (λ u. by_answer SmallFound (answer_at sh z) (answering sh) (omega arith) (answer_at_sum s sh q z ((candidate_sizes_test sh z).0 u)))
     (λ u. omega arith)))
 
--- of what sizes gives back, and makes of an outcome
-abbrev pub SmallSizing : Sizing → Type 0
-SmallSizing (sized.Sized sum) = sum ≤ 128
-SmallSizing (sized.Refused n place) = place < 65536
-
+-- of what sizes makes of an outcome
 abbrev SmallSized : Sizing-as-Outcome → Type 0
-SmallSized o = SmallSizing (gives o)
+SmallSized o = Small (gives o)
 
-pub sizes_small : (s : List ℕ) (room : ℕ) → SmallSizing (sizing s room)
+pub sizes_small : (s : List ℕ) (room : ℕ) → Small (sizing s room)
 unfolding sizing Sizing·outcome
 sizes_small s room =
     by_reading SmallSized s (λ r. Sizing·consider r room) (λ n i h. h)

@@ -1,35 +1,32 @@
 -- The interface: the answers of find, sizes, find_at and judge as one number of 32 bits: a refusal has its number in the upper 16 bits and its
 -- place in the lower.
-use Rattle.std.specs.Prelude.{ℕ, ◌+◌, ◌*◌, ◌≤◌, ◌<◌}
-use Rattle.sizes.specs.declared.Sizing.{Sizing}
-use Rattle.sizes.specs.declared.Sizing.TheVariants as sized
-use Rattle.find_at.specs.declared.Finding.{Finding}
-use Rattle.find_at.specs.declared.Finding.TheVariants as found
+use Rattle.std.specs.Prelude.{ℕ, ◌+◌, ◌*◌, ◌≤◌, ◌<◌, Result, Ok, Err}
+use Rattle.prelude.specs.Causes.{number_of}
+use Rattle.prelude.specs.declared.refusal.Refusal.{Refusal}
 use Rattle.tables.specs.declared.Judgement.{Judgement}
-use Rattle.tables.specs.declared.Judgement.TheVariants.{Fits, OutOfBounds, Broken, Refused}
+use Rattle.tables.specs.declared.Judgement.TheVariants.{Fits, OutOfBounds, Broken}
 
 abbrev pub refusal_number : ℕ → ℕ → ℕ
 refusal_number n place = n * 65536 + place
 
 -- judge: 0 fits, 1 out of bounds, 2 + k for the first broken statement k
-abbrev pub judge_number : Judgement → ℕ
-judge_number Fits = 0
-judge_number OutOfBounds = 1
-judge_number (Broken k) = 2 + k
-judge_number (Refused n place) = refusal_number n place
+abbrev pub judge_number : Result Judgement Refusal → ℕ
+judge_number (Ok Fits) = 0
+judge_number (Ok OutOfBounds) = 1
+judge_number (Ok (Broken k)) = 2 + k
+judge_number (Err r) = refusal_number (number_of r.cause) r.place
 
 -- find and find_at: the sum of the sizes
-abbrev pub find_number : Finding → ℕ
-find_number (found.Found sum) = sum
-find_number (found.Refused n place) = refusal_number n place
+abbrev pub find_number : Result ℕ Refusal → ℕ
+find_number (Ok sum) = sum
+find_number (Err r) = refusal_number (number_of r.cause) r.place
 
 -- sizes: their sum
-abbrev pub sizes_number : Sizing → ℕ
-sizes_number (sized.Sized sum) = sum
-sizes_number (sized.Refused n place) = refusal_number n place
+abbrev pub sizes_number : Result ℕ Refusal → ℕ
+sizes_number = find_number
 
--- Not the interface: what `found_number` asks of a finding, that its number has 32 bits. All that find and find_at give back are so
--- (`find_small` and `find_at_small` of proofs/Numbers.antt).
-abbrev pub Small : Finding → Type 0
-Small (found.Found sum) = sum ≤ 128
-Small (found.Refused n place) = place < 65536
+-- Not the interface: what `found_number` asks of an answer, that its number has 32 bits. All that find, sizes and find_at give back are so
+-- (`find_small`, `sizes_small` and `find_at_small` of proofs/Numbers.antt).
+abbrev pub Small : Result ℕ Refusal → Type 0
+Small (Ok sum) = sum ≤ 128
+Small (Err r) = r.place < 65536

@@ -8,8 +8,7 @@ ghost use Rattle.find_at.specs.FindAt.{finding_at, codes_after_at, tables_after_
 ghost use Rattle.finder.specs.Find.{finding, codes_after, tables_after};
 ghost use Rattle.gateway.specs.Number.{refusal_number, find_number, sizes_number, judge_number, Small};
 
-use find_at::Finding;
-use sizes::Sizing;
+use prelude::refusal::Refusal;
 use tables::Judgement;
 
 // Finds the first answer to a sheet: the sum of its sizes, or the refusal. The codes stand in front of `codes` and the tables in front
@@ -32,10 +31,7 @@ pub extern "C" fn sizes(sheet: &[u8], out: &mut [u8]) -> u32
     ensures buffer { out.new ≡ sizes_after sheet.now out.old }
 {
     let sized = sizes::sizes(sheet, out);
-    match sized {
-        Sizing::Sized { sum } => sum as u32,
-        Sizing::Refused { number, place } => refusal(number, place as u16),
-    }
+    found_number(sized)
 }
 
 // Finds the first answer to a sheet that has exactly these sizes; result and buffers are as find's.
@@ -56,25 +52,26 @@ pub extern "C" fn judge(sheet: &[u8], tables: &[u8]) -> u32
 {
     let j = judge::judge(sheet, tables);
     match j {
-        Judgement::Fits => 0,
-        Judgement::OutOfBounds => 1,
-        Judgement::Broken(k) => 2 + (k as u32),
-        Judgement::Refused { number, place } => refusal(number, place as u16),
+        Ok(Judgement::Fits) => 0,
+        Ok(Judgement::OutOfBounds) => 1,
+        Ok(Judgement::Broken(k)) => 2 + (k as u32),
+        Err(r) => refusal(r.cause.number(), r.place as u16),
     }
 }
 
-// What find or find_at found, as one number.
-fn found_number(found: Finding) -> u32
+// What find, sizes or find_at found, as one number.
+fn found_number(found: Result<usize, Refusal>) -> u32
     requires { Small found }
     ensures { result ≡ find_number found }
 {
     match found {
-        Finding::Found { sum } => sum as u32,
-        Finding::Refused { number, place } => refusal(number, place as u16),
+        Ok(sum) => sum as u32,
+        Err(r) => refusal(r.cause.number(), r.place as u16),
     }
 }
 
 // A refusal as one number.
+// Kept: numbers, the C interface.
 fn refusal(number: u8, place: u16) -> u32
     ensures { result ≡ refusal_number number place }
 {

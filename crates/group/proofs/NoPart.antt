@@ -11,7 +11,7 @@ use Rattle.layout.specs.Encode.{encode}
 use Rattle.layout.proofs.Answers.{accepted_well_formed, unfilled_read}
 use Rattle.congruence.specs.Forced.{SameStatements}
 use Rattle.congruence.proofs.NoPart.{group_alike, without_fills_lem}
-use Rattle.group.specs.declared.Grouping.TheVariants.{Group}
+use Rattle.std.specs.Prelude.{Ok}
 use Rattle.group.specs.Grouping.{grouping}
 use Rattle.group.proofs.Replies.{absent, named}
 
@@ -21,7 +21,7 @@ answered_alike sh other same s t e q r =
     elim (dec_lt e (length sh.terms)) [
       | yes b ↦
           named s sh q e b
-          ∙ ap Group (group_alike sh other same (accepted_well_formed s sh q) (accepted_well_formed t other r) e b)
+          ∙ ap Ok (group_alike sh other same (accepted_well_formed s sh q) (accepted_well_formed t other r) e b)
           ∙ sym (named t other r e (omega arith))
       | no b ↦ absent s sh q e (omega arith) ∙ sym (absent t other r e (omega arith))
     ]

@@ -6,7 +6,7 @@ use Rattle.prelude.specs.Lists.{at}
 use Rattle.logic.specs.Sheet.{Sheet}
 use Rattle.layout.specs.Layout.{Reading, accepted, refused, cause, read_from, reading}
 use Rattle.congruence.specs.Closure.{stated, round, rounds, labels}
-use Rattle.group.specs.declared.Grouping.TheVariants.{Group}
+use Rattle.std.specs.Prelude.{Ok}
 use Rattle.group.specs.Grouping.{grouping}
 
 -- sheet 10, a record to a line: x same f(f(x)), x differs from f(x)
@@ -40,12 +40,12 @@ repeatedly =
     ∷ 1 ∷ 0 ∷ 6 ∷ 0 ∷ 16 ∷ []
 
 -- f of f gives back x, and f need not
-pub answers_twice : (grouping twice 0 ≡ Group 0) × (grouping twice 1 ≡ Group 1) × (grouping twice 2 ≡ Group 0)
+pub answers_twice : (grouping twice 0 ≡ Ok 0) × (grouping twice 1 ≡ Ok 1) × (grouping twice 2 ≡ Ok 0)
 unfolding twice grouping reading read_from cause labels rounds round stated
 answers_twice = (refl, refl, refl)
 
 -- f gives back x
-pub answers_repeatedly : grouping repeatedly 1 ≡ Group 0
+pub answers_repeatedly : grouping repeatedly 1 ≡ Ok 0
 unfolding repeatedly grouping reading read_from cause labels rounds round stated
 answers_repeatedly = refl
 

@@ -15,7 +15,9 @@ use Rattle.prelude.proofs.Tests.{decided}
 use Rattle.prelude.proofs.Lists.{sum_to_grows}
 use Rattle.logic.specs.Structure.{code}
 use Rattle.layout.specs.declared.Parsed.{Parsed}
-use Rattle.tables.specs.declared.Judgement.TheVariants.{OutOfBounds, Refused}
+use Rattle.std.specs.Prelude.{Option, Some, None, unwrap_or, Ok, Err}
+use Rattle.prelude.specs.Causes.{refusal}
+use Rattle.tables.specs.declared.Judgement.TheVariants.{OutOfBounds}
 use Rattle.tables.specs.Layout.{cells, decoded}
 use Rattle.tables.specs.Tests.{well_laid, in_bounds, statements}
 use Rattle.tables.specs.Parts.{Packs, Laying}
@@ -23,17 +25,24 @@ use Rattle.tables.proofs.Laid.{well_laid_test}
 use Rattle.tables.proofs.Packing.{symbols_packed}
 use Rattle.tables.proofs.Whole.{laid_offset}
 use Rattle.judge.proofs.Judged.{judged_by}
-use Rattle.judge.specs.Judge.{judged, stretch_of, Spans}
+use Rattle.judge.specs.Judge.{judged, Stretch, stretch_of, Spans}
+use Rattle.judge.specs.Parts.{Found}
+use Rattle.judge.specs.declared.Span.{Span}
 
 -- the replies of judge, by its tests
-pub judged_refused : (sh : Sheet) (t : List ℕ) → well_laid sh t ≡ false → Refused 12 0 ≡ judged sh t
+pub judged_refused : (sh : Sheet) (t : List ℕ) → well_laid sh t ≡ false → Err (refusal 12 0) ≡ judged sh t
 judged_refused sh t e = sym (judged_by sh t false (in_bounds sh (at t)) e refl)
 
-pub judged_out : (sh : Sheet) (t : List ℕ) → well_laid sh t ≡ true → in_bounds sh (at t) ≡ false → OutOfBounds ≡ judged sh t
+pub judged_out : (sh : Sheet) (t : List ℕ) → well_laid sh t ≡ true → in_bounds sh (at t) ≡ false → Ok OutOfBounds ≡ judged sh t
 judged_out sh t e f = sym (judged_by sh t true false e f)
 
-pub judged_statements : (sh : Sheet) (t : List ℕ) (c : ℕ → ℕ) → well_laid sh t ≡ true → in_bounds sh (at t) ≡ true → ((i : ℕ) → c i ≡ code (decoded sh t) sh i) → statements c 0 sh.literals ≡ judged sh t
-judged_statements sh t c e f h = ap (λ (g : ℕ → ℕ). statements g 0 sh.literals) (fun_ext h) ∙ sym (judged_by sh t true true e f)
+pub judged_statements : (sh : Sheet) (t : List ℕ) (c : ℕ → ℕ) → well_laid sh t ≡ true → in_bounds sh (at t) ≡ true → ((i : ℕ) → c i ≡ code (decoded sh t) sh i) → Ok (statements c 0 sh.literals) ≡ judged sh t
+judged_statements sh t c e f h = ap (λ (g : ℕ → ℕ). Ok (statements g 0 sh.literals)) (fun_ext h) ∙ sym (judged_by sh t true true e f)
+
+-- a stretch that may be nowhere, by its start and its end
+pub found_spans : (o : Option Span) (r : Span) (s : Stretch) → r ≡ unwrap_or o (record { start = 0; end = 0 }) → Found o s → Spans r.start r.end s
+found_spans None r s e k = rw e k
+found_spans (Some x) r s e k = rw e k
 
 -- the stretches of table of a name, by its tests
 pub span_missing : (sh : Sheet) (p : Parsed) (t : List ℕ) (f : ℕ) → Packs sh p → p.symbols ≤ f → Spans 0 0 (stretch_of sh t f)

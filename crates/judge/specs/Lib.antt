@@ -1,1 +1,3 @@
+-- Judge is the interface; Parts serves the proofs.
 pub mod Judge
+pub mod Parts

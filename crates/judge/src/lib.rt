@@ -5,8 +5,10 @@ ghost use Rattle.std.specs.Prelude.{◌+◌, ◌≤◌, ◌≡◌, length};
 ghost use Rattle.logic.specs.Sheet.{Sheet};
 ghost use Rattle.tables.specs.Parts.{Packs, Limited};
 ghost use Rattle.judge.specs.Judge.{judged, judgement, stretch, stretch_of, table_of, Spans};
+ghost use Rattle.judge.specs.Parts.{Found};
 
 use layout::Parsed;
+use prelude::refusal::{Cause, Refusal};
 use tables::Judgement;
 
 // A stretch of the tables: where it starts and where it ends.
@@ -16,18 +18,16 @@ pub struct Span {
     pub end: usize,
 }
 
+// What shows a refusal (docs/FORMAT.md, "The questions": an empty stretch).
+// Kept: `table_of` and `table_span` promise this stretch where the call is turned down, in place of an Option.
+const NOWHERE: Span = Span { start: 0, end: 0 };
+
 // Judge: fits, out of bounds, the number of the first broken statement, or why the call is turned down.
-pub fn judge(sheet: &[u8], tables: &[u8]) -> Judgement
+pub fn judge(sheet: &[u8], tables: &[u8]) -> Result<Judgement, Refusal>
     ensures { result ≡ judgement sheet.now tables.now }
 {
-    let parsing = sheet::parse(sheet);
-    let number = parsing.number;
-    let place = parsing.place;
-    if number != 0 {
-        return Judgement::Refused { number, place };
-    }
-    let p = parsing.sheet;
-    judge_parsed(p, tables)
+    let parsed = sheet::parse(sheet)?;
+    judge_parsed(parsed, tables)
 }
 
 // The table of a symbol: the very stretch of the caller's tables, empty where the call is turned down.
@@ -45,52 +45,46 @@ pub fn table_of<'a>(sheet: &[u8], tables: &'a [u8], symbol: usize) -> &'a [u8]
 pub fn table_span(sheet: &[u8], tables: &[u8], symbol: usize) -> Span
     ensures { Spans result.start result.end (table_of sheet.now tables.now symbol) × (result.end ≤ length tables.now) }
 {
-    let parsing = sheet::parse(sheet);
-    let number = parsing.number;
-    if number != 0 {
-        return Span { start: 0, end: 0 };
+    match sheet::parse(sheet) {
+        Ok(p) => span_of(p, tables, symbol).unwrap_or(NOWHERE),
+        Err(_) => NOWHERE,
     }
-    let p = parsing.sheet;
-    span_of(p, tables, symbol)
 }
 
 // Judge, of a parsed sheet: cause 12 first, then the bounds, then the statements.
-fn judge_parsed(p: Parsed, t: &[u8]) -> Judgement
+fn judge_parsed(p: Parsed, t: &[u8]) -> Result<Judgement, Refusal>
     requires { Limited p }
     ensures { (sh : Sheet) → Packs sh p → result ≡ judged sh t.now }
 {
     if !tables::well_laid(p, t) {
-        return Judgement::Refused {
-            number: 12,
-            place: 0,
-        };
+        return Err(Cause::IllLaid.at(0));
     }
     let n = p.sorts;
     let sizes = tables::sizes_of(n, t);
     if !tables::in_bounds(p, sizes) {
-        return Judgement::OutOfBounds;
+        return Ok(Judgement::OutOfBounds);
     }
     let offsets = tables::extents(p, sizes);
     let codes = tables::codes_of(p, sizes, offsets, t);
-    tables::first_broken(p, codes)
+    Ok(tables::first_broken(p, codes))
 }
 
-// The table of a symbol, of a parsed sheet: an empty stretch shows a refusal.
-fn span_of(p: Parsed, t: &[u8], symbol: usize) -> Span
+// The table of a symbol, of a parsed sheet; none where the call is turned down.
+fn span_of(p: Parsed, t: &[u8], symbol: usize) -> Option<Span>
     requires { Limited p }
-    ensures { (sh : Sheet) → Packs sh p → Spans result.start result.end (stretch_of sh t.now symbol) }
+    ensures { (sh : Sheet) → Packs sh p → Found result (stretch_of sh t.now symbol) }
 {
     if p.symbols <= symbol {
-        return Span { start: 0, end: 0 };
+        return None;
     }
     if !tables::well_laid(p, t) {
-        return Span { start: 0, end: 0 };
+        return None;
     }
     let n = p.sorts;
     let sizes = tables::sizes_of(n, t);
     let offsets = tables::extents(p, sizes);
-    Span {
+    Some(Span {
         start: offsets[symbol],
         end: offsets[symbol + 1],
-    }
+    })
 }

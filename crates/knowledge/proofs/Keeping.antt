@@ -1,6 +1,6 @@
 -- What each step does to knowledge: the combinators that carry loops, and one law for each change of an array.
 use Prim.Native.Nat.{ℕ, ◌+◌, ◌*◌, ◌/◌, ◌%◌, ◌^◌, ◌<◌}
-use mathlib.Core.Path.{◌≡◌, sym, ap, ◌∙◌}
+use mathlib.Core.Path.{◌≡◌, refl, sym, ap, ◌∙◌}
 use mathlib.Core.List.{List}
 use mathlib.Core.Logic.{inl, inr}
 use native.Mathlib.Omega.{arith}
@@ -8,7 +8,8 @@ use lib.ListN.{set}
 use lib.Bits.{bit_or}
 use Rattle.prelude.specs.Lists.{at}
 use Rattle.prelude.proofs.Lists.{at_set}
-use Rattle.knowledge.specs.Knows.{Bit, Labels, Masks, Marks, Knows, SmallCodes, Same, Differ, Means, Kept}
+use Rattle.knowledge.specs.declared.Known.{Known}
+use Rattle.knowledge.specs.Knows.{Bit, Labels, Masks, Marks, Knows, SmallCodes, Same, Differ, Means, Kept, Struck, Marked}
 use Rattle.knowledge.proofs.Bits.{bit_or_lem, bit_pow, bit_full}
 
 -- nothing changes
@@ -25,16 +26,41 @@ step f q = record { kept = λ c i a. q.kept c (f c i a) a }
 pub step_from : {If Con A B D : (ℕ → ℕ) → Type 0} → Kept If A B → ((c : ℕ → ℕ) → If c → B c → Con c) → Kept Con B D → Kept If A D
 step_from p f q = chain p (step f q)
 
--- what changes one of the three arrays
-module _ {If : (ℕ → ℕ) → Type 0} {l w m : List ℕ} where
-  pub in_labels : {l' : List ℕ} → Kept If (Labels l) (Labels l') → Kept If (Knows l w m) (Knows l' w m)
-  in_labels q = record { kept = λ c i a. record { labels = q.kept c i a.labels; masks = a.masks; marks = a.marks } }
+-- what changes the labels alone
+pub in_labels : {If : (ℕ → ℕ) → Type 0} {k : Known} {l : List ℕ} → Kept If (Labels k.labels) (Labels l) → Kept If (Knows k) (Knows (record { labels = l; masks = k.masks; marks = k.marks }))
+in_labels q = record { kept = λ c i a. record { labels = q.kept c i a.labels; masks = a.masks; marks = a.marks } }
 
-  pub in_masks : {w' : List ℕ} → Kept If (Masks w) (Masks w') → Kept If (Knows l w m) (Knows l w' m)
-  in_masks q = record { kept = λ c i a. record { labels = a.labels; masks = q.kept c i a.masks; marks = a.marks } }
+-- what strikes codes out
+module _ {If : (ℕ → ℕ) → Type 0} {k : Known} where
+  pub struck_none : Struck If k k
+  struck_none = record { struck = stay; labels = refl; marks = refl }
 
-  pub in_marks : {m' : List ℕ} → Kept If (Marks m) (Marks m') → Kept If (Knows l w m) (Knows l w m')
-  in_marks q = record { kept = λ c i a. record { labels = a.labels; masks = a.masks; marks = q.kept c i a.marks } }
+  pub struck_chain : {k' k'' : Known} → Struck If k k' → Struck If k' k'' → Struck If k k''
+  struck_chain p q = record { struck = chain p.struck q.struck; labels = q.labels ∙ p.labels; marks = q.marks ∙ p.marks }
+
+  pub struck_step : {Con : (ℕ → ℕ) → Type 0} {k' : Known} → ((c : ℕ → ℕ) → If c → Masks k.masks c → Con c) → Struck Con k k' → Struck If k k'
+  struck_step f q = record { struck = step f q.struck; labels = q.labels; marks = q.marks }
+
+  pub in_masks : {Con : (ℕ → ℕ) → Type 0} {k' : Known} → ((c : ℕ → ℕ) → If c → Knows k c → Con c) → Struck Con k k' → Kept If (Knows k) (Knows k')
+  in_masks f q = record {
+    kept = λ c i a. record { labels = rw q.labels a.labels; masks = q.struck.kept c (f c i a) a.masks; marks = rw q.marks a.marks };
+  }
+
+-- what marks pairs
+module _ {If : (ℕ → ℕ) → Type 0} {k : Known} where
+  pub marked_none : Marked If k k
+  marked_none = record { marked = stay; labels = refl; masks = refl }
+
+  pub marked_chain : {k' k'' : Known} → Marked If k k' → Marked If k' k'' → Marked If k k''
+  marked_chain p q = record { marked = chain p.marked q.marked; labels = q.labels ∙ p.labels; masks = q.masks ∙ p.masks }
+
+  pub marked_step : {Con : (ℕ → ℕ) → Type 0} {k' : Known} → ((c : ℕ → ℕ) → If c → Marks k.marks c → Con c) → Marked Con k k' → Marked If k k'
+  marked_step f q = record { marked = step f q.marked; labels = q.labels; masks = q.masks }
+
+  pub in_marks : {Con : (ℕ → ℕ) → Type 0} {k' : Known} → ((c : ℕ → ℕ) → If c → Knows k c → Con c) → Marked Con k k' → Kept If (Knows k) (Knows k')
+  in_marks f q = record {
+    kept = λ c i a. record { labels = rw q.labels a.labels; masks = rw q.masks a.masks; marks = q.marked.kept c (f c i a) a.marks };
+  }
 
 -- a term's label has the term's code, and so has the label as a number
 pub label_code : (l : List ℕ) (i g : ℕ) → i < 128 → g ≡ at l i → Means (Labels l) (Same g i)

@@ -1,1 +1,2 @@
 pub mod Knows
+pub mod Row

@@ -16,7 +16,7 @@ use Rattle.prelude.proofs.Tests.{and_both}
 use Rattle.prelude.proofs.Lists.{each_more}
 use Rattle.layout.specs.Layout.{occurs}
 use Rattle.layout.specs.Packed.{first, second}
-use Rattle.layout.specs.Parts.{payload_bytes, Short}
+use Rattle.layout.specs.Parts.{payload_bytes}
 use Rattle.layout.specs.declared.Payload.{Payload}
 
 -- at most two numbers, none of which is 255
@@ -52,16 +52,16 @@ pair_map c (x ∷ x' ∷ x'' ∷ xs) (y ∷ y' ∷ ys) e n f g = absurd (omega a
 abbrev pub args_of : Payload → List ℕ
 args_of q = drop 1 (payload_bytes q)
 
-module _ (q : Payload) (h : Short q) where
+module _ (q : Payload) where
   pub front : payload_bytes q ≡ q.b0 ∷ args_of q
-  front = go q.len h.least
+  front = go q.len q.short.least
     where
       go : (n : ℕ) → 1 ≤ n → take n (q.b0 ∷ q.b1 ∷ q.b2 ∷ []) ≡ q.b0 ∷ drop 1 (take n (q.b0 ∷ q.b1 ∷ q.b2 ∷ []))
       go zero e = absurd (omega arith)
       go (suc n) e = refl
 
   pub args_few : length (args_of q) ≤ 2
-  args_few = go q.len h.most
+  args_few = go q.len q.short.most
     where
       go : (n : ℕ) → n ≤ 3 → length (drop 1 (take n (q.b0 ∷ q.b1 ∷ q.b2 ∷ []))) ≤ 2
       go zero e = omega arith
@@ -71,7 +71,7 @@ module _ (q : Payload) (h : Short q) where
       go (suc (suc (suc (suc n)))) e = absurd (omega arith)
 
   pub args_first : first (args_of q) ≡ q.b1
-  args_first = go q.len h.second
+  args_first = go q.len q.short.second
     where
       go : (n : ℕ) → (n < 2 → q.b1 ≡ 255) → first (drop 1 (take n (q.b0 ∷ q.b1 ∷ q.b2 ∷ []))) ≡ q.b1
       go zero e = sym (e (omega arith))
@@ -79,7 +79,7 @@ module _ (q : Payload) (h : Short q) where
       go (suc (suc n)) e = refl
 
   pub args_second : second (args_of q) ≡ q.b2
-  args_second = go q.len h.third
+  args_second = go q.len q.short.third
     where
       go : (n : ℕ) → (n < 3 → q.b2 ≡ 255) → second (drop 1 (take n (q.b0 ∷ q.b1 ∷ q.b2 ∷ []))) ≡ q.b2
       go zero e = sym (e (omega arith))
@@ -89,7 +89,7 @@ module _ (q : Payload) (h : Short q) where
 
   -- the test whether they are all below n, by how many there are
   pub below_none : (n : ℕ) → q.len < 2 → true ≡ all (λ a. ltb a n) (args_of q)
-  below_none n = go q.len h.least
+  below_none n = go q.len q.short.least
     where
       go : (m : ℕ) → 1 ≤ m → m < 2 → true ≡ all (λ a. ltb a n) (drop 1 (take m (q.b0 ∷ q.b1 ∷ q.b2 ∷ [])))
       go zero e e' = absurd (omega arith)
@@ -106,7 +106,7 @@ module _ (q : Payload) (h : Short q) where
       go (suc (suc (suc m))) e e' = absurd (omega arith)
 
   pub below_two : (n : ℕ) → 3 ≤ q.len → (ltb q.b1 n && ltb q.b2 n) ≡ all (λ a. ltb a n) (args_of q)
-  below_two n e = go q.len e h.most
+  below_two n e = go q.len e q.short.most
     where
       go : (m : ℕ) → 3 ≤ m → m ≤ 3 → (ltb q.b1 n && ltb q.b2 n) ≡ all (λ a. ltb a n) (drop 1 (take m (q.b0 ∷ q.b1 ∷ q.b2 ∷ [])))
       go zero e e' = absurd (omega arith)
@@ -148,5 +148,5 @@ pub each_map : (g : ℕ → ℕ) (n m : ℕ) (l : List ℕ) → ((a : ℕ) → a
 each_map g n m [] h e = tt
 each_map g n m (x ∷ l) h e = (h x e.0, each_map g n m l h e.1)
 
-pub args_pair : (q : Payload) (n : ℕ) → Short q → n ≤ 255 → all (λ a. ltb a n) (args_of q) ≡ true → Pair (args_of q)
-args_pair q n h l e = record { few = args_few q h; small = each_weaken n 255 (args_of q) l (all_below n (args_of q) e) }
+pub args_pair : (q : Payload) (n : ℕ) → n ≤ 255 → all (λ a. ltb a n) (args_of q) ≡ true → Pair (args_of q)
+args_pair q n l e = record { few = args_few q; small = each_weaken n 255 (args_of q) l (all_below n (args_of q) e) }

@@ -9,7 +9,7 @@ use lib.Dec.{ltb}
 use borrow.Author.Tests.{ltb-true, ltb-false, leb-false, not-false}
 use Rattle.logic.specs.Sheet.{Sheet}
 use Rattle.layout.specs.Layout.{kind_of, wrong_length, add}
-use Rattle.layout.specs.Parts.{payload_bytes, Short, later, Good}
+use Rattle.layout.specs.Parts.{payload_bytes, later, Good}
 use Rattle.layout.specs.declared.Payload.{Payload}
 use Rattle.layout.proofs.Causes.{Placed, placed, Clear, clear, no_terms}
 use Rattle.prelude.proofs.Tests.{and_both, or_both}
@@ -62,10 +62,10 @@ name_early sh q g = let h = (good_placed sh 2 q g).order in no_terms sh (omega a
 pub term_room : (sh : Sheet) (q : Payload) → Good sh 3 q → length sh.terms < 128
 term_room sh q g = leb-false 128 (length sh.terms) (good_clear sh 3 q g).room
 
-pub term_there : (sh : Sheet) (q : Payload) → Short q → Good sh 3 q → q.b0 < length sh.symbols
-term_there sh q s g =
+pub term_there : (sh : Sheet) (q : Payload) → Good sh 3 q → q.b0 < length sh.symbols
+term_there sh q g =
     let h = (good_clear sh 3 q g).range in
-    let e = front q s in
+    let e = front q in
     ltb-true q.b0 (length sh.symbols)
     (ap (λ (p : List ℕ). ltb (get_or p 0 0) (length sh.symbols)) (sym e)
     ∙ (and_both (ltb (get_or (payload_bytes q) 0 0) (length sh.symbols)) _ (not-false _ h)).0)

@@ -10,20 +10,23 @@ use borrow.Author.Tests.{lt-ltb, le-ltb, le-leb, lt-leb, eq-eqb, ne_eqb, ltb-fal
 use Rattle.logic.specs.Sheet.{Sheet, symbol_at, sort_at}
 use Rattle.prelude.specs.Tests.{all, within}
 use Rattle.prelude.proofs.Tests.{or_all, or_fourth, and_no}
+use Rattle.layout.specs.Kinds.{kind_number}
+use Rattle.layout.specs.declared.kinds.Kind.{Kind as Named}
+use Rattle.layout.specs.declared.kinds.Kind.TheVariants.{Sort, Symbol, Term, Same, Differ, Total, Fill}
 use Rattle.layout.specs.Layout.{Kind, field, name, expression, same, total, fill, kind_of, rank, reached, misplaced, wrong_length, shortest, longest, too_many, out_of_range, ill_sorted, repeated, refilled, occurs, is_filled}
 use Rattle.layout.specs.Parts.{later}
 
 -- a kind that is none of 1 to 7 has no rank
-pub no_rank : (k : ℕ) → (k ≡ 1 → ⊥) → (k ≡ 2 → ⊥) → (k ≡ 3 → ⊥) → (k ≡ 4 → ⊥) → (k ≡ 5 → ⊥) → (k ≡ 6 → ⊥) → (k ≡ 7 → ⊥) → 0 ≡ rank (kind_of k)
-no_rank zero a b c d e f g = refl
-no_rank (suc zero) a b c d e f g = absurd (a refl)
-no_rank (suc (suc zero)) a b c d e f g = absurd (b refl)
-no_rank (suc (suc (suc zero))) a b c d e f g = absurd (c refl)
-no_rank (suc (suc (suc (suc zero)))) a b c d e f g = absurd (d refl)
-no_rank (suc (suc (suc (suc (suc zero))))) a b c d e f g = absurd (e refl)
-no_rank (suc (suc (suc (suc (suc (suc zero)))))) a b c d e f g = absurd (f refl)
-no_rank (suc (suc (suc (suc (suc (suc (suc zero))))))) a b c d e f g = absurd (g refl)
-no_rank (suc (suc (suc (suc (suc (suc (suc (suc n)))))))) a b c d e f g = refl
+pub no_rank : (k : ℕ) → ((x : Named) → k ≡ kind_number x → ⊥) → 0 ≡ rank (kind_of k)
+no_rank zero h = refl
+no_rank (suc zero) h = absurd (h Sort refl)
+no_rank (suc (suc zero)) h = absurd (h Symbol refl)
+no_rank (suc (suc (suc zero))) h = absurd (h Term refl)
+no_rank (suc (suc (suc (suc zero)))) h = absurd (h Same refl)
+no_rank (suc (suc (suc (suc (suc zero))))) h = absurd (h Differ refl)
+no_rank (suc (suc (suc (suc (suc (suc zero)))))) h = absurd (h Total refl)
+no_rank (suc (suc (suc (suc (suc (suc (suc zero))))))) h = absurd (h Fill refl)
+no_rank (suc (suc (suc (suc (suc (suc (suc (suc n)))))))) h = refl
 
 pub ranked : (k : ℕ) → (rank (kind_of k) ≡ 0 → ⊥) → (1 ≤ k) × (k ≤ 7)
 ranked zero h = absurd (h refl)

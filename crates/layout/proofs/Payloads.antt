@@ -5,7 +5,7 @@ use mathlib.Core.Path.{◌≡◌, refl, ap, sym, ◌∙◌}
 use mathlib.Core.List.{List, [], ◌∷◌}
 use lib.ListN.{length, get_or, take, drop, length-drop, get_or-eq_default}
 use lib.Seq.{length-take-le, get_or-take, get_or-drop}
-use Rattle.layout.specs.Parts.{payload_bytes, Short}
+use Rattle.layout.specs.Payloads.{Short}
 
 -- a byte of a payload, inside it and past it
 pub byte_inside : (s : List ℕ) (start n k : ℕ) → k < n → start + n ≤ length s → get_or s (start + k) 0 ≡ get_or (take n (drop start s)) k 255
@@ -30,23 +30,19 @@ spelt (x ∷ y ∷ []) h = refl
 spelt (x ∷ y ∷ z ∷ []) h = refl
 spelt (x ∷ y ∷ z ∷ w ∷ l) h = absurd (omega arith)
 
-pub short : (s : List ℕ) (start n b0 b1 b2 : ℕ) → start + n ≤ length s → 1 ≤ n → n ≤ 3
-    → b0 ≡ get_or (take n (drop start s)) 0 255
-    → b1 ≡ get_or (take n (drop start s)) 1 255
-    → b2 ≡ get_or (take n (drop start s)) 2 255
-    → (payload_bytes (record { len = n; b0 = b0; b1 = b1; b2 = b2 }) ≡ take n (drop start s)) × Short (record { len = n; b0 = b0; b1 = b1; b2 = b2 })
-short s start n b0 b1 b2 e least most e0 e1 e2 = (
-  rw (e0, e1, e2) (ap (λ (m : ℕ). take m (get_or l 0 255 ∷ get_or l 1 255 ∷ get_or l 2 255 ∷ [])) (sym len) ∙ spelt l (rw len most)),
-  record {
-    least = least;
-    most = most;
-    second = λ h. e1 ∙ sym (byte_past s start n 1 (omega arith) e);
-    third = λ h. e2 ∙ sym (byte_past s start n 2 (omega arith) e);
-  },
-)
-  where
-    l : List ℕ
-    l = take n (drop start s)
+-- the bytes of a payload and what holds of them, from the bytes of the sheet
+module _ (s : List ℕ) (start n b0 b1 b2 : ℕ) (e : start + n ≤ length s) (least : 1 ≤ n) (most : n ≤ 3) (e1 : b1 ≡ get_or (take n (drop start s)) 1 255) (e2 : b2 ≡ get_or (take n (drop start s)) 2 255) where
+  pub short_lem : Short n b1 b2
+  short_lem =
+      record {
+        least = least;
+        most = most;
+        second = λ h. e1 ∙ sym (byte_past s start n 1 (omega arith) e);
+        third = λ h. e2 ∙ sym (byte_past s start n 2 (omega arith) e);
+      }
 
-    len : length l ≡ n
-    len = length_part s start n e
+  pub short_bytes : b0 ≡ get_or (take n (drop start s)) 0 255 → take n (b0 ∷ b1 ∷ b2 ∷ []) ≡ take n (drop start s)
+  short_bytes e0 =
+      rw (e0, e1, e2)
+      (ap (λ (m : ℕ). take m (get_or (take n (drop start s)) 0 255 ∷ get_or (take n (drop start s)) 1 255 ∷ get_or (take n (drop start s)) 2 255 ∷ [])) (sym (length_part s start n e))
+      ∙ spelt (take n (drop start s)) (rw (length_part s start n e) most))

@@ -15,7 +15,7 @@ use Rattle.records.specs.declared.Step.TheVariants.{Cut}
 use Rattle.records.proofs.Steps.{step_uncut}
 use Rattle.layout.specs.Layout
 use Rattle.layout.specs.Layout.{kind_of, misplaced, wrong_length, cause, refused, ended, read_from, reading}
-use Rattle.layout.specs.Parts.{payload_bytes, Short, later, fault_of, fault_at}
+use Rattle.layout.specs.Parts.{payload_bytes, later, fault_of, fault_at}
 use Rattle.layout.specs.declared.Payload.{Payload}
 use Rattle.layout.proofs.Causes.{placed, ranked}
 
@@ -50,8 +50,8 @@ one_to_three k n a b e = go k a b (or_both (ltb n (Layout.shortest k)) (ltb (Lay
     go (suc (suc (suc (suc (suc (suc (suc zero))))))) a b e = let x = ltb-false n 2 e.0 in let y = ltb-false 2 n e.1 in omega arith
     go (suc (suc (suc (suc (suc (suc (suc (suc k)))))))) a b e = absurd (omega arith)
 
-pub length_bytes : (q : Payload) → Short q → length (payload_bytes q) ≡ q.len
-length_bytes q h = go q.len h.most
+pub length_bytes : (q : Payload) → length (payload_bytes q) ≡ q.len
+length_bytes q = go q.len q.short.most
   where
     go : (n : ℕ) → n ≤ 3 → length (take n (q.b0 ∷ q.b1 ∷ q.b2 ∷ [])) ≡ n
     go zero e = refl
@@ -65,11 +65,10 @@ pub record Tested (sh : Sheet) (k : ℕ) (p : List ℕ) (q : Payload) : Type 0 w
   pub placed : misplaced sh (kind_of k) ≡ false
   pub sized : wrong_length k (length p) ≡ false
   pub bytes : payload_bytes q ≡ p
-  pub short : Short q
 
 module _ (sh : Sheet) (k : ℕ) (p : List ℕ) (q : Payload) (t : Tested sh k p q) where
   pub tested_sized : wrong_length k q.len ≡ false
-  tested_sized = ap (wrong_length k) (sym (length_bytes q t.short) ∙ ap length t.bytes) ∙ t.sized
+  tested_sized = ap (wrong_length k) (sym (length_bytes q) ∙ ap length t.bytes) ∙ t.sized
 
   pub tested_cause : later sh (kind_of k) (payload_bytes q) ≡ cause sh k p
   tested_cause = ap (later sh (kind_of k)) t.bytes ∙ cause_later sh k p t.placed t.sized

@@ -3,5 +3,7 @@
 pub mod Layout
 pub mod Encode
 pub mod Packed
+pub mod Kinds
+pub mod Payloads
 pub mod Views
 pub mod Parts

@@ -1,9 +1,8 @@
 -- Between this crate and the parser: what holds of the part of a sheet that has been read, and what the tests of a record and adding it
 -- promise in the words of the layout.
-use Rattle.std.specs.Prelude.{ℕ, ◌≤◌, ◌<◌, ◌≡◌, false, cond, List, [], ◌∷◌, length, take, drop}
+use Rattle.std.specs.Prelude.{ℕ, ◌≤◌, ◌≡◌, false, cond, List, [], ◌∷◌, length, take, drop}
 use Rattle.logic.specs.Sheet.{Sheet}
 use Rattle.logic.specs.WellFormed.{Formed}
-use Rattle.prelude.specs.Limits.{missing}
 use Rattle.layout.specs.Layout.{Kind, kind_of, reached, misplaced, wrong_length, too_many, out_of_range, ill_sorted, repeated, refilled, cause}
 use Rattle.layout.specs.Packed.{packed}
 use Rattle.records.specs.Step.{step_at, step_cause}
@@ -26,15 +25,9 @@ pub record PartRead (p : Parsed) : Type 0 where
   pub same : p ≡ packed sheet
   pub sofar : SoFar sheet
 
--- a payload of one to three bytes: those bytes; each of the second and the third that is not there is missing
+-- the bytes of a payload
 abbrev pub payload_bytes : Payload → List ℕ
 payload_bytes q = take q.len (q.b0 ∷ q.b1 ∷ q.b2 ∷ [])
-
-pub record Short (q : Payload) : Type 0 where
-  pub least : 1 ≤ q.len
-  pub most : q.len ≤ 3
-  pub second : q.len < 2 → q.b1 ≡ missing
-  pub third : q.len < 3 → q.b2 ≡ missing
 
 -- the causes 5 to 8 and 16, where neither 3 nor 4 applies
 abbrev pub later : Sheet → Kind → List ℕ → ℕ

@@ -1,14 +1,17 @@
 // The causes 3 to 8 and 16 for which a record is refused, tested against the sheet so far.
 ghost use Rattle.std.specs.Prelude.{◌≡◌, true, false, ◌&&◌, cond, [], ◌∷◌, ◌<◌, ◌≤◌, length, get_or, drop, ltb, eqb};
 ghost use Rattle.logic.specs.Sheet.{Sheet};
+ghost use Rattle.prelude.specs.Causes.{tested};
 ghost use Rattle.prelude.specs.Tests.{all, within};
 ghost use Rattle.prelude.specs.Limits.{most_terms, most_codes, missing};
 ghost use Rattle.layout.specs.Layout.{kind_of, rank, reached, misplaced, wrong_length, shortest, longest, occurs, ill_sorted, field, name, expression, same, total};
 ghost use Rattle.layout.specs.Packed.{packed};
-ghost use Rattle.layout.specs.Parts.{payload_bytes, Short, PartRead, later};
+ghost use Rattle.layout.specs.Parts.{payload_bytes, PartRead, later};
 
 use crate::fills::fill_fault;
+use crate::kinds::Kind;
 use crate::{Parsed, Payload};
+use prelude::refusal::Cause;
 use prelude::{
     GREATEST_SIZE, GREATEST_TOTAL, MISSING, MOST_LITERALS, MOST_SORTS, MOST_SYMBOLS, MOST_TERMS,
     wide,
@@ -60,20 +63,21 @@ pub fn is_wrong_length(kind: usize, len: usize) -> bool
 }
 
 // The causes 5 to 8 and 16 of a record that is in its place and of an allowed length.
-pub fn fault(p: Parsed, kind: usize, q: Payload) -> u8
-    requires part_read { PartRead p }
-    requires short { Short q }
-    ensures { (k : PartRead p) → misplaced k.sheet (kind_of kind) ≡ false → wrong_length kind q.len ≡ false → result ≡ later k.sheet (kind_of kind) (payload_bytes q) }
+pub fn fault(p: Parsed, kind: usize, q: Payload) -> Result<(), Cause>
+    requires { PartRead p }
+    ensures { (k : PartRead p) → misplaced k.sheet (kind_of kind) ≡ false → wrong_length kind q.len ≡ false → result ≡ tested (later k.sheet (kind_of kind) (payload_bytes q)) }
 {
-    match kind {
-        1 => sort_fault(p.sorts, q.b0, q.b1),
-        2 => symbol_fault(p.symbols, p.sorts, q),
-        3 => term_fault(p, q),
-        4 => literal_fault(p, q.b0, q.b1),
-        5 => literal_fault(p, q.b0, q.b1),
-        6 => total_fault(q.b0),
-        7 => fill_fault(p, q.b0, q.b1),
-        _ => 0,
+    let Ok(named) = Kind::try_from(kind) else {
+        return Ok(());
+    };
+    match named {
+        Kind::Sort => sort_fault(p.sorts, q.b0, q.b1),
+        Kind::Symbol => symbol_fault(p.symbols, p.sorts, q),
+        Kind::Term => term_fault(p, q),
+        Kind::Same => literal_fault(p, q.b0, q.b1),
+        Kind::Differ => literal_fault(p, q.b0, q.b1),
+        Kind::Total => total_fault(q.b0),
+        Kind::Fill => fill_fault(p, q.b0, q.b1),
     }
 }
 
@@ -81,15 +85,16 @@ pub fn fault(p: Parsed, kind: usize, q: Payload) -> u8
 fn rank_of(kind: usize) -> usize
     ensures { result ≡ rank (kind_of kind) }
 {
-    match kind {
-        1 => 1,
-        2 => 2,
-        3 => 3,
-        4 => 4,
-        5 => 4,
-        6 => 6,
-        7 => 5,
-        _ => 0,
+    let Ok(named) = Kind::try_from(kind) else {
+        return 0;
+    };
+    match named {
+        Kind::Sort => 1,
+        Kind::Symbol => 2,
+        Kind::Term => 3,
+        Kind::Same | Kind::Differ => 4,
+        Kind::Total => 6,
+        Kind::Fill => 5,
     }
 }
 
@@ -133,19 +138,19 @@ fn longest_of(kind: usize) -> u8
 }
 
 // The causes 5 and 6 of a sort.
-fn sort_fault(sorts: usize, b0: u8, b1: u8) -> u8
-    ensures { (sh : Sheet) → sorts ≡ length sh.bounds → result ≡ later sh field (b0 ∷ b1 ∷ []) }
+fn sort_fault(sorts: usize, b0: u8, b1: u8) -> Result<(), Cause>
+    ensures { (sh : Sheet) → sorts ≡ length sh.bounds → result ≡ tested (later sh field (b0 ∷ b1 ∷ [])) }
 {
     if MOST_SORTS <= sorts {
-        return 5;
+        return Err(Cause::OneTooMany);
     }
     if !is_size(b0) {
-        return 6;
+        return Err(Cause::OutOfRange);
     }
     if !is_size(b1) {
-        return 6;
+        return Err(Cause::OutOfRange);
     }
-    0
+    Ok(())
 }
 
 // A floor or a ceiling is in range.
@@ -159,49 +164,46 @@ fn is_size(b: u8) -> bool
 }
 
 // The causes 5 and 6 of a symbol.
-fn symbol_fault(symbols: usize, sorts: usize, q: Payload) -> u8
-    requires { Short q }
-    ensures { (sh : Sheet) → symbols ≡ length sh.symbols → sorts ≡ length sh.bounds → result ≡ later sh name (payload_bytes q) }
+fn symbol_fault(symbols: usize, sorts: usize, q: Payload) -> Result<(), Cause>
+    ensures { (sh : Sheet) → symbols ≡ length sh.symbols → sorts ≡ length sh.bounds → result ≡ tested (later sh name (payload_bytes q)) }
 {
     if MOST_SYMBOLS <= symbols {
-        return 5;
+        return Err(Cause::OneTooMany);
     }
     if sorts <= wide(q.b0) {
-        return 6;
+        return Err(Cause::OutOfRange);
     }
     if !rest_below(q, sorts) {
-        return 6;
+        return Err(Cause::OutOfRange);
     }
-    0
+    Ok(())
 }
 
 // The causes 5 to 8 of a term.
-fn term_fault(p: Parsed, q: Payload) -> u8
-    requires part_read { PartRead p }
-    requires short { Short q }
-    ensures { (k : PartRead p) → result ≡ later k.sheet expression (payload_bytes q) }
+fn term_fault(p: Parsed, q: Payload) -> Result<(), Cause>
+    requires { PartRead p }
+    ensures { (k : PartRead p) → result ≡ tested (later k.sheet expression (payload_bytes q)) }
 {
     if MOST_TERMS <= p.terms {
-        return 5;
+        return Err(Cause::OneTooMany);
     }
     if p.symbols <= wide(q.b0) {
-        return 6;
+        return Err(Cause::OutOfRange);
     }
     if !rest_below(q, p.terms) {
-        return 6;
+        return Err(Cause::OutOfRange);
     }
     if is_ill_sorted(p, q) {
-        return 7;
+        return Err(Cause::IllSorted);
     }
     if is_repeated(p, q) {
-        return 8;
+        return Err(Cause::Repeated);
     }
-    0
+    Ok(())
 }
 
 // The bytes of a payload behind its first are numbers below n.
 fn rest_below(q: Payload, n: usize) -> bool
-    requires { Short q }
     ensures { result ≡ all (λ a. ltb a n) (drop 1 (payload_bytes q)) }
 {
     let len = q.len;
@@ -222,7 +224,6 @@ fn rest_below(q: Payload, n: usize) -> bool
 // Cause 7 of a term: its arguments are not as many, or not of the sorts, as its symbol takes.
 fn is_ill_sorted(p: Parsed, q: Payload) -> bool
     requires part_read { PartRead p }
-    requires short { Short q }
     requires b0_lt_symbols { (q.b0 < p.symbols) × (all (λ a. ltb a p.terms) (drop 1 (payload_bytes q)) ≡ true) }
     ensures { (k : PartRead p) → result ≡ ill_sorted k.sheet expression (payload_bytes q) }
 {
@@ -250,16 +251,13 @@ fn sort_of(terms: usize, sort: [u8; MOST_TERMS], a: u8) -> u8
 // Cause 8 of a term: an earlier one has its symbol and arguments.
 fn is_repeated(p: Parsed, q: Payload) -> bool
     requires part_read { PartRead p }
-    requires short { Short q }
     requires q_value { all (λ a. ltb a p.terms) (drop 1 (payload_bytes q)) ≡ true }
     ensures { (k : PartRead p) → result ≡ occurs q.b0 (drop 1 (payload_bytes q)) k.sheet.terms }
 {
-    let mut i: usize = 0;
-    while i < p.terms {
+    for i in 0..p.terms {
         if is_same(p.symbol[i], p.arg0[i], p.arg1[i], q) {
             return true;
         }
-        i += 1;
     }
     false
 }
@@ -278,36 +276,36 @@ fn is_same(symbol: u8, arg0: u8, arg1: u8, q: Payload) -> bool
 }
 
 // The causes 5 to 7 of a literal, which are the same for both kinds.
-fn literal_fault(p: Parsed, b0: u8, b1: u8) -> u8
+fn literal_fault(p: Parsed, b0: u8, b1: u8) -> Result<(), Cause>
     requires { PartRead p }
-    ensures { (k : PartRead p) → result ≡ later k.sheet same (b0 ∷ b1 ∷ []) }
+    ensures { (k : PartRead p) → result ≡ tested (later k.sheet same (b0 ∷ b1 ∷ [])) }
 {
     if MOST_LITERALS <= p.literals {
-        return 5;
+        return Err(Cause::OneTooMany);
     }
     let l = wide(b0);
     let r = wide(b1);
     if p.terms <= l {
-        return 6;
+        return Err(Cause::OutOfRange);
     }
     if p.terms <= r {
-        return 6;
+        return Err(Cause::OutOfRange);
     }
     if p.sort[l] == p.sort[r] {
-        return 0;
+        return Ok(());
     }
-    7
+    Err(Cause::IllSorted)
 }
 
 // Cause 6 of a total; a second one is misplaced.
-fn total_fault(b0: u8) -> u8
-    ensures { (sh : Sheet) → sh.total ≡ 0 → result ≡ later sh total (b0 ∷ []) }
+fn total_fault(b0: u8) -> Result<(), Cause>
+    ensures { (sh : Sheet) → sh.total ≡ 0 → result ≡ tested (later sh total (b0 ∷ [])) }
 {
     if b0 < 1 {
-        return 6;
+        return Err(Cause::OutOfRange);
     }
     if GREATEST_TOTAL < b0 {
-        return 6;
+        return Err(Cause::OutOfRange);
     }
-    0
+    Ok(())
 }

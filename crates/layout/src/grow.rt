@@ -4,27 +4,29 @@ ghost use Rattle.prelude.specs.Limits.{most_sorts, most_symbols, most_terms, mos
 ghost use Rattle.logic.specs.Sheet.{Sheet};
 ghost use Rattle.layout.specs.Layout.{kind_of, add_bound, add_symbol, add_term, add_literal, add_fill, with_total, add};
 ghost use Rattle.layout.specs.Packed.{packed, bit};
-ghost use Rattle.layout.specs.Parts.{payload_bytes, Short, PartRead, Good};
+ghost use Rattle.layout.specs.Parts.{payload_bytes, PartRead, Good};
 
+use crate::kinds::Kind;
 use crate::{Parsed, Payload};
 use prelude::wide;
 
 // The sheet with a good record more.
 pub fn added(p: Parsed, kind: usize, q: Payload) -> Parsed
     requires part_read { PartRead p }
-    requires short { Short q }
     requires good { (k : PartRead p) → Good k.sheet kind q }
     ensures { (k : PartRead p) → result ≡ packed (add k.sheet (kind_of kind) (payload_bytes q)) }
 {
-    match kind {
-        1 => with_sort(p, q.b0, q.b1),
-        2 => with_symbol(p, q),
-        3 => with_term(p, q),
-        4 => with_literal(p, 1, q.b0, q.b1),
-        5 => with_literal(p, 0, q.b0, q.b1),
-        6 => with_total(p, q.b0),
-        7 => with_fill(p, q.b0, q.b1),
-        _ => p,
+    let Ok(named) = Kind::try_from(kind) else {
+        return p;
+    };
+    match named {
+        Kind::Sort => with_sort(p, q.b0, q.b1),
+        Kind::Symbol => with_symbol(p, q),
+        Kind::Term => with_term(p, q),
+        Kind::Same => with_literal(p, 1, q.b0, q.b1),
+        Kind::Differ => with_literal(p, 0, q.b0, q.b1),
+        Kind::Total => with_total(p, q.b0),
+        Kind::Fill => with_fill(p, q.b0, q.b1),
     }
 }
 
@@ -43,8 +45,7 @@ pub fn with_sort(p: Parsed, b0: u8, b1: u8) -> Parsed
 
 // A symbol more. The terms' sorts stay as they are: there is no term yet.
 pub fn with_symbol(p: Parsed, q: Payload) -> Parsed
-    requires symbols_lt_most_symbols { p.symbols < most_symbols }
-    requires short { Short q }
+    requires { p.symbols < most_symbols }
     ensures { (sh : Sheet) → p ≡ packed sh → length sh.terms ≡ 0 → result ≡ packed (add_symbol sh (record { result = q.b0; params = drop 1 (payload_bytes q) })) }
 {
     let mut out = p;
@@ -58,8 +59,7 @@ pub fn with_symbol(p: Parsed, q: Payload) -> Parsed
 
 // A term more, of the sort that its symbol gives.
 pub fn with_term(p: Parsed, q: Payload) -> Parsed
-    requires terms_lt_most_terms { (p.terms < most_terms) × (q.b0 < most_symbols) }
-    requires short { Short q }
+    requires { (p.terms < most_terms) × (q.b0 < most_symbols) }
     ensures { (sh : Sheet) → p ≡ packed sh → q.b0 < length sh.symbols → result ≡ packed (add_term sh (record { symbol = q.b0; args = drop 1 (payload_bytes q) })) }
 {
     let mut out = p;

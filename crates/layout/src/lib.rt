@@ -4,14 +4,18 @@
 pub mod faults; // the causes 3 to 8 and 16
 mod fills; // those of a fill
 pub mod grow; // the sheet with a record more
+pub mod kinds; // the kinds of records
 
 ghost use Rattle.std.specs.Prelude.{◌≡◌};
 ghost use Rattle.layout.specs.Layout.{empty};
 ghost use Rattle.layout.specs.Packed.{packed};
+ghost use Rattle.layout.specs.Payloads.{Short};
 
 use prelude::{MOST_FILLS, MOST_LITERALS, MOST_SORTS, MOST_SYMBOLS, MOST_TERMS};
 
 // A parsed sheet: what its records say, kind by kind in their order. A parameter or an argument that is not there is MISSING.
+// Kept: columns with a count beside, and `equal` a byte: `packed` and `view` (specs/Packed.antt) say what each column holds, and propagation lends columns to
+// its rules one by one; the product has no heap, and `packed` stands for sheets of any length, so that no limit can be in the type.
 #[derive(Clone, Copy)]
 pub struct Parsed {
     // sorts: the least and the greatest number of codes
@@ -42,12 +46,14 @@ pub struct Parsed {
 }
 
 // A payload of one to three bytes, MISSING for a second or third that is not there.
+// Kept: three bytes and a length, not a slice: a test reads all three, also where they are not there (`is_same`, `is_ill_sorted`).
 #[derive(Clone, Copy)]
 pub struct Payload {
     pub len: usize,
     pub b0: u8,
     pub b1: u8,
     pub b2: u8,
+    ghost short: { Short len b1 b2 },
 }
 
 // The sheet before its first record.

@@ -1,7 +1,7 @@
 -- Laws of sizes: the order by sum and then by places, and what consistent codes at some sizes say of other sizes.
 use Prim.Native.Nat.{ℕ, zero, suc, ◌+◌, ◌-◌, ◌≤◌, ◌<◌}
-use mathlib.Core.Path.{◌≡◌, refl, sym, ap, subst, ◌∙◌}
-use mathlib.Core.Bool.{Bool, true, false, false≢true}
+use mathlib.Core.Path.{◌≡◌, sym, ap, subst, ◌∙◌}
+use mathlib.Core.Bool.{true, false, false≢true}
 use mathlib.Core.List.{List}
 use mathlib.Core.Logic.{◌⊎◌, inl, inr}
 use native.Mathlib.Omega.{arith}
@@ -14,11 +14,12 @@ use Rattle.prelude.specs.Limits.{undecided}
 use Rattle.prelude.specs.Lists.{at, sum_to}
 use Rattle.prelude.proofs.Lists.{at_set_same, at_set_other, sum_to_monotone}
 use Rattle.logic.specs.Order.{NotAfter}
-use Rattle.logic.specs.Problem.{Problem, WellSorted, Allowed}
+use Rattle.logic.specs.Problem.{Problem, WellSorted, Allowed, Unsatisfiable}
 use Rattle.logic.proofs.Consistent.{larger_sizes}
 use Rattle.solve.specs.Solved.{Solved}
+use Rattle.std.specs.Prelude.{Option, Some, None, IfSome, is_some}
 use Rattle.least_sizes.specs.LeastSizes.{Satisfiable, SizesNoLater, LeastSizes}
-use Rattle.least_sizes.specs.Parts.{Barren, Probed, Below, Edge, Compared, GreatestSizes, Raised, Contender, Outdone, Region, Open, Hunted, Looked, Corner}
+use Rattle.least_sizes.specs.Parts.{Barren, Probed, Below, Edge, Compared, Greatest, Raised, Candidate, Outdone, Region, Open, Hunted, Corner}
 
 -- ---- sums
 -- one place lies apart, so the sums do by at least as much
@@ -88,12 +89,10 @@ module _ (n : ℕ) (f g : ℕ → ℕ) (i : ℕ) (same : (k : ℕ) → k < i →
   nolater_same h s = record { sum = s; places = λ e j hj agree. let z = same j (omega arith) in omega arith }
 
 -- ---- probing
-pub probed : (P : Problem) (sizes q c : ℕ → ℕ) (found : Bool) → P.terms ≤ 128 → ((j : ℕ) → j < 256 → q j ≡ undecided) → Solved P sizes q found c → Probed P found sizes
-probed P sizes q c found lim all s =
-    record {
-      yes = λ e. (c, s.consistent e);
-      no = λ e d con. s.none e d con (λ i h n. absurd (n (all i (omega arith))));
-    }
+pub probed : (P : Problem) (sizes q : ℕ → ℕ) (found : Option (List ℕ)) → P.terms ≤ 128 → ((j : ℕ) → j < 256 → q j ≡ undecided) → Solved P sizes q found → Probed P (is_some found) sizes
+probed P sizes q (Some codes) lim all s = record { yes = λ e. (at codes, s.consistent); no = λ e. absurd (false≢true (sym e)) }
+probed P sizes q None lim all s =
+    record { yes = λ e. absurd (false≢true e); no = λ e d con. s d con (λ i h n. absurd (n (all i (omega arith)))) }
 
 -- what is barren stays so at smaller sizes
 pub barren_below : (P : Problem) (small large : ℕ → ℕ) → WellSorted P → Below P.sorts small large → Barren P large → Barren P small
@@ -203,9 +202,6 @@ module _ (P : Problem) (slack : ℕ) (high : List ℕ) (n : ℕ) (few : P.sorts 
       other : (s : ℕ) → (s ≡ n → ⊥) → at less s ≡ at high s
       other s ne = ap (λ (m : List ℕ). at m s) e ∙ at_set_other high n v s ne
 
-pub greatest_none : (P : Problem) (high : ℕ → ℕ) → ((size : ℕ → ℕ) → Allowed P size → ⊥) → GreatestSizes P false high
-greatest_none P high n = record { none = λ e. n; floors = λ e. absurd (false≢true e); ceilings = λ e. absurd (false≢true e); all = λ e. absurd (false≢true e) }
-
 -- the floors are above the total, or one above its ceiling
 pub floors_exceed : (P : Problem) (size : ℕ → ℕ) → P.total < sum_to P.sorts P.floor → Allowed P size → ⊥
 floors_exceed P size h a = let s = sum_to_monotone P.sorts P.floor size a.floor in let t = a.total in omega arith
@@ -213,13 +209,12 @@ floors_exceed P size h a = let s = sum_to_monotone P.sorts P.floor size a.floor 
 pub floor_exceeds : (P : Problem) (size : ℕ → ℕ) (s : ℕ) → s < P.sorts → P.ceiling s < P.floor s → Allowed P size → ⊥
 floor_exceeds P size s h l a = let x = a.floor s h in let y = a.ceiling s h in omega arith
 
-pub clipped_all : (P : Problem) (slack : ℕ) (high : List ℕ) (n : ℕ) → P.sorts ≤ n → slack + sum_to P.sorts P.floor ≡ P.total → Clipped P slack high n → GreatestSizes P true (at high)
+pub clipped_all : (P : Problem) (slack : ℕ) (high : List ℕ) (n : ℕ) → P.sorts ≤ n → slack + sum_to P.sorts P.floor ≡ P.total → Clipped P slack high n → Greatest P (at high)
 clipped_all P slack high n le e k =
     record {
-      none = λ x. absurd (false≢true (sym x));
-      floors = λ x s h. k.floors s (omega arith);
-      ceilings = λ x. k.ceilings;
-      all = λ x size a s h.
+      floors = λ s h. k.floors s (omega arith);
+      ceilings = k.ceilings;
+      all = λ size a s h.
           let apart = sum_apart P.sorts P.floor size s h a.floor in
           let t = a.total in
           k.all s (omega arith) (size s) (a.ceiling s h) (omega arith);
@@ -231,19 +226,19 @@ pub record Raising (P : Problem) (low : List ℕ) (high : ℕ → ℕ) : Type 0 
   pub length : length low ≡ 8
   pub raised : Raised P (at low) high
 
-pub raising_none : (P : Problem) (low floor : List ℕ) (high : ℕ → ℕ) → length low ≡ 8 → low ≡ floor → ((s : ℕ) → at floor s ≡ P.floor s) → GreatestSizes P true high → Raising P low high
+pub raising_none : (P : Problem) (low floor : List ℕ) (high : ℕ → ℕ) → length low ≡ 8 → low ≡ floor → ((s : ℕ) → at floor s ≡ P.floor s) → Greatest P high → Raising P low high
 raising_none P low floor high len e given l =
     let same : (s : ℕ) → at low s ≡ P.floor s = λ s. ap (λ (l : List ℕ). at l s) e ∙ given s in
     record {
       length = len;
       raised = record {
         floors = λ s h. let e = same s in omega arith;
-        highs = λ s h. let e = same s in let f = l.floors refl s h in omega arith;
+        highs = λ s h. let e = same s in let f = l.floors s h in omega arith;
         all = λ size a sat s h. let e = same s in let f = a.floor s h in omega arith;
       };
     }
 
-module _ (P : Problem) (low high next : List ℕ) (s lo value : ℕ) (w : WellSorted P) (few : P.sorts ≤ 8) (there : s < P.sorts) (l : GreatestSizes P true (at high)) (k : Raising P low (at high)) (elo : lo ≡ at low s) (e : Edge P high s lo (at high s) value) (len : length high ≡ 8) (en : next ≡ set low s value) where
+module _ (P : Problem) (low high next : List ℕ) (s lo value : ℕ) (w : WellSorted P) (few : P.sorts ≤ 8) (there : s < P.sorts) (l : Greatest P (at high)) (k : Raising P low (at high)) (elo : lo ≡ at low s) (e : Edge P high s lo (at high s) value) (len : length high ≡ 8) (en : next ≡ set low s value) where
   raised_same : at next s ≡ value
   raised_same = ap (λ (m : List ℕ). at m s) en ∙ at_set_same low s value (omega (arith, k.length))
 
@@ -256,7 +251,7 @@ module _ (P : Problem) (low high next : List ℕ) (s lo value : ℕ) (w : WellSo
       satisfiable_not P size (at (set high s (size s))) w
       (λ j hj. elim (ℕ_discrete j s) [
         | yes x ↦ subst (λ (t : ℕ). size t ≤ at (set high s (size s)) t) (sym x) (let y = at_set_same high s (size s) (omega arith) in omega arith)
-        | no x ↦ let y = at_set_other high s (size s) j x in let z = l.all refl size a j hj in omega arith
+        | no x ↦ let y = at_set_other high s (size s) j x in let z = l.all size a j hj in omega arith
       ])
       (e.barren (size s) (let y = k.raised.all size a sat s there in omega arith) h) sat
 
@@ -323,93 +318,83 @@ module _ (P : Problem) (low high : ℕ → ℕ) (box next : List ℕ) (s lo hi v
       }
 
 -- ---- a look at a region
-module _ (P : Problem) (low high : ℕ → ℕ) (bound : ℕ) (corner : ℕ → ℕ) (found₀ : Bool) (best₀ : ℕ → ℕ) (c : found₀ ≡ true → Contender P bound best₀) where
-  kept_itself : found₀ ≡ true → Outdone P found₀ best₀ best₀
-  kept_itself e = record { there = e; later = nolater_below P.sorts best₀ best₀ (λ s h. le_refl (best₀ s)) }
+outdone_trans : (P : Problem) (best best' : Option (List ℕ)) (size : ℕ → ℕ) → IfSome best (λ sizes. Outdone P best' (at sizes)) → Outdone P best size → Outdone P best' size
+outdone_trans P (Some b) (Some b') size to c = nolater_trans P.sorts (at b') (at b) size to c
+outdone_trans P (Some b) None size to c = to
+outdone_trans P None best' size to c = absurd c
 
+outdone_later : (P : Problem) (best : Option (List ℕ)) (size size' : ℕ → ℕ) → Outdone P best size → SizesNoLater P.sorts size size' → Outdone P best size'
+outdone_later P (Some b) size size' n l = nolater_trans P.sorts (at b) size size' n l
+outdone_later P None size size' n l = n
+
+kept_trans : (P : Problem) (before after after' : Option (List ℕ)) → IfSome after (λ best. Outdone P after' (at best)) → IfSome before (λ best. Outdone P after (at best)) → IfSome before (λ best. Outdone P after' (at best))
+kept_trans P (Some b) after after' to k = outdone_trans P after after' (at b) to k
+kept_trans P None after after' to k = tt
+
+pub kept_itself : (P : Problem) (best : Option (List ℕ)) → IfSome best (λ sizes. Outdone P best (at sizes))
+kept_itself P (Some b) = nolater_below P.sorts (at b) (at b) (λ s h. le_refl (at b s))
+kept_itself P None = tt
+
+module _ (P : Problem) (low high : ℕ → ℕ) (bound : ℕ) (before : Option (List ℕ)) (c : Candidate P bound before) where
   -- the sums of the region are above the bound
-  pub look_past : bound < sum_to P.sorts low → Looked P low high bound true corner found₀ best₀ found₀ best₀
+  pub look_past : bound < sum_to P.sorts low → Hunted P low high bound before before
   look_past h =
       record {
         candidate = c;
-        kept = kept_itself;
-        all = λ e size o. let a = sum_to_monotone P.sorts low size o.above in let b = o.sum in absurd (omega arith);
-        barren = λ e. absurd (false≢true (sym e));
-        inside = λ e. absurd (false≢true (sym e));
+        kept = kept_itself P before;
+        all = λ size o. let a = sum_to_monotone P.sorts low size o.above in let b = o.sum in absurd (omega arith);
       }
 
   -- the best comes no later than the lowest sizes
-  pub look_ahead : found₀ ≡ true → SizesNoLater P.sorts best₀ low → Looked P low high bound true corner found₀ best₀ found₀ best₀
-  look_ahead f n =
+  pub look_ahead : Outdone P before low → Hunted P low high bound before before
+  look_ahead n =
       record {
         candidate = c;
-        kept = kept_itself;
-        all = λ e size o. record { there = f; later = nolater_trans P.sorts best₀ low size n (nolater_below P.sorts low size o.above) };
-        barren = λ e. absurd (false≢true (sym e));
-        inside = λ e. absurd (false≢true (sym e));
+        kept = kept_itself P before;
+        all = λ size o. outdone_later P before low size n (nolater_below P.sorts low size o.above);
       }
 
-  -- the lowest sizes have consistent codes, and the best so far comes no earlier
-  pub look_found : Region P low high → bound ≤ P.total → sum_to P.sorts low ≤ bound → Satisfiable P low → (found₀ ≡ true → SizesNoLater P.sorts low best₀) → Looked P low high bound true corner found₀ best₀ true low
-  look_found r le h sat n =
-      record {
-        candidate = λ e. record {
-          allowed = record { floor = r.floors; ceiling = λ s l. let a = r.order s l in let b = r.ceilings s l in omega arith; total = (omega arith) };
-          satisfiable = sat;
-          sum = h;
-        };
-        kept = λ e. record { there = refl; later = n e };
-        all = λ e size o. record { there = refl; later = nolater_below P.sorts low size o.above };
-        barren = λ e. absurd (false≢true (sym e));
-        inside = λ e. absurd (false≢true (sym e));
-      }
-
-  -- the lowest sizes lie in a barren box
-  pub look_box : Corner P low corner → Looked P low high bound false corner found₀ best₀ found₀ best₀
-  look_box k =
-      record {
-        candidate = c;
-        kept = kept_itself;
-        all = λ e. absurd (false≢true e);
-        barren = λ e. k.barren;
-        inside = λ e. k.inside;
-      }
+-- the lowest sizes have consistent codes, and the best so far comes no earlier
+pub look_found : (P : Problem) (low : List ℕ) (high : ℕ → ℕ) (bound : ℕ) (before : Option (List ℕ)) → Region P (at low) high → bound ≤ P.total → sum_to P.sorts (at low) ≤ bound → Satisfiable P (at low)
+    → IfSome before (λ sizes. SizesNoLater P.sorts (at low) (at sizes)) → Hunted P (at low) high bound before (Some low)
+look_found P low high bound before r le h sat n =
+    record {
+      candidate = record {
+        allowed = record { floor = r.floors; ceiling = λ s l. let a = r.order s l in let b = r.ceilings s l in omega arith; total = (omega arith) };
+        satisfiable = sat;
+        sum = h;
+      };
+      kept = n;
+      all = λ size o. nolater_below P.sorts (at low) size o.above;
+    }
 
 -- ---- the hunt
-pub hunted_done : (P : Problem) (low high : ℕ → ℕ) (bound : ℕ) (corner : ℕ → ℕ) (done found₀ : Bool) (best₀ : ℕ → ℕ) (found : Bool) (best : ℕ → ℕ) → done ≡ true
-    → Looked P low high bound done corner found₀ best₀ found best → Hunted P low high bound found₀ best₀ found best
-hunted_done P low high bound corner done found₀ best₀ found best e k = record { candidate = k.candidate; kept = k.kept; all = k.all e }
-
 -- the hunt while the sizes that leave the box in a sort below n have been taken into account; the others lie below `up`
-pub record Hunting (P : Problem) (low high : ℕ → ℕ) (bound : ℕ) (corner : ℕ → ℕ) (found₀ : Bool) (best₀ : ℕ → ℕ) (found : Bool) (best : ℕ → ℕ) (up : List ℕ) (n : ℕ) : Type 0 where
+pub record Hunting (P : Problem) (low high : ℕ → ℕ) (bound : ℕ) (corner : ℕ → ℕ) (before after : Option (List ℕ)) (up : List ℕ) (n : ℕ) : Type 0 where
   pub length : length up ≡ 8
-  pub candidate : found ≡ true → Contender P bound best
-  pub kept : found₀ ≡ true → Outdone P found best best₀
+  pub candidate : Candidate P bound after
+  pub kept : IfSome before (λ best. Outdone P after (at best))
   pub region : Region P low (at up)
   pub under : Below P.sorts (at up) high
   pub clipped : Below n (at up) corner
-  pub all : (size : ℕ → ℕ) → Open P low high bound size → Outdone P found best size ⊎ Below P.sorts size (at up)
+  pub all : (size : ℕ → ℕ) → Open P low high bound size → Outdone P after size ⊎ Below P.sorts size (at up)
 
-outdone_trans : (P : Problem) (found found' : Bool) (best best' size : ℕ → ℕ) → (found ≡ true → Outdone P found' best' best) → Outdone P found best size → Outdone P found' best' size
-outdone_trans P found found' best best' size to c = let k = to c.there in record { there = k.there; later = nolater_trans P.sorts best' best size k.later c.later }
-
-module _ (P : Problem) (low high : ℕ → ℕ) (bound : ℕ) (corner : ℕ → ℕ) (found₀ : Bool) (best₀ : ℕ → ℕ) where
-  pub hunting_none : (found : Bool) (best : ℕ → ℕ) (up : List ℕ) → length up ≡ 8 → ((s : ℕ) → at up s ≡ high s) → Region P low (at up) → (found ≡ true → Contender P bound best) → (found₀ ≡ true → Outdone P found best best₀)
-      → Hunting P low high bound corner found₀ best₀ found best up 0
-  hunting_none found best up len same r c k =
+module _ (P : Problem) (low : ℕ → ℕ) (bound : ℕ) (corner : ℕ → ℕ) (before : Option (List ℕ)) where
+  pub hunting_none : (up : List ℕ) → length up ≡ 8 → Region P low (at up) → Candidate P bound before → Hunting P low (at up) bound corner before before up 0
+  hunting_none up len r c =
       record {
         length = len;
         candidate = c;
-        kept = k;
+        kept = kept_itself P before;
         region = r;
-        under = λ s h. let e = same s in omega arith;
+        under = λ s h. le_refl (at up s);
         clipped = λ s h. absurd (omega arith);
-        all = λ size o. inr (λ s h. let e = same s in let x = o.under s h in omega arith);
+        all = λ size o. inr o.under;
       }
 
-  module _ (found : Bool) (best : ℕ → ℕ) (up : List ℕ) (n b u : ℕ) (few : P.sorts ≤ 8) (there : n < P.sorts) (k : Hunting P low high bound corner found₀ best₀ found best up n) (eb : b ≡ corner n) (eu : u ≡ at up n) where
+  module _ (high : ℕ → ℕ) (after : Option (List ℕ)) (up : List ℕ) (n b u : ℕ) (few : P.sorts ≤ 8) (there : n < P.sorts) (k : Hunting P low high bound corner before after up n) (eb : b ≡ corner n) (eu : u ≡ at up n) where
     -- the box reaches as high in this sort
-    pub hunting_skip : u ≤ b → Hunting P low high bound corner found₀ best₀ found best up (n + 1)
+    pub hunting_skip : u ≤ b → Hunting P low high bound corner before after up (n + 1)
     hunting_skip h =
         record {
           length = k.length;
@@ -459,7 +444,7 @@ module _ (P : Problem) (low high : ℕ → ℕ) (bound : ℕ) (corner : ℕ → 
           let c = sum_to_monotone P.sorts (at up) high k.under in
           omega arith
 
-      module _ (found' : Bool) (best' : ℕ → ℕ) (less : List ℕ) (h : Hunted P (at down) (at up) bound found best found' best') (el : less ≡ set up n b) where
+      module _ (after' : Option (List ℕ)) (less : List ℕ) (h : Hunted P (at down) (at up) bound after after') (el : less ≡ set up n b) where
         less_same : at less n ≡ b
         less_same = ap (λ (m : List ℕ). at m n) el ∙ at_set_same up n b (omega (arith, k.length))
 
@@ -472,12 +457,12 @@ module _ (P : Problem) (low high : ℕ → ℕ) (bound : ℕ) (corner : ℕ → 
           | no x ↦ let y = less_other s x in omega arith
         ]
 
-        pub hunting_more : Hunting P low high bound corner found₀ best₀ found' best' less (n + 1)
+        pub hunting_more : Hunting P low high bound corner before after' less (n + 1)
         hunting_more =
             record {
               length = ap length el ∙ length-set up n b ∙ k.length;
               candidate = h.candidate;
-              kept = λ e. outdone_trans P found found' best best' best₀ h.kept (k.kept e);
+              kept = kept_trans P before after after' h.kept k.kept;
               region = record {
                 floors = k.region.floors;
                 order = λ s l. elim (ℕ_discrete s n) [
@@ -490,7 +475,7 @@ module _ (P : Problem) (low high : ℕ → ℕ) (bound : ℕ) (corner : ℕ → 
               clipped = below_more _ n (λ s l. let y = less_other s (ne_of_lt l) in let z = k.clipped s l in omega arith) (let y = less_same in omega arith);
               all = λ size o.
                   elim (k.all size o) [
-                    | inl x ↦ inl (outdone_trans P found found' best best' size h.kept x)
+                    | inl x ↦ inl (outdone_trans P after after' size h.kept x)
                     | inr x ↦
                         elim (dec_lt b (size n)) [
                           | yes y ↦ inl (h.all size (record { allowed = o.allowed; satisfiable = o.satisfiable; above = above size o y; under = x; sum = o.sum }))
@@ -509,8 +494,8 @@ module _ (P : Problem) (low high : ℕ → ℕ) (bound : ℕ) (corner : ℕ → 
             ]
 
   -- what is left lies in the box
-  pub hunted_all : (found : Bool) (best : ℕ → ℕ) (up : List ℕ) (n : ℕ) → WellSorted P → P.sorts ≤ n → Barren P corner → Hunting P low high bound corner found₀ best₀ found best up n → Hunted P low high bound found₀ best₀ found best
-  hunted_all found best up n w le bare k =
+  pub hunted_all : (high : ℕ → ℕ) (after : Option (List ℕ)) (up : List ℕ) (n : ℕ) → WellSorted P → P.sorts ≤ n → Barren P corner → Hunting P low high bound corner before after up n → Hunted P low high bound before after
+  hunted_all high after up n w le bare k =
       record {
         candidate = k.candidate;
         kept = k.kept;
@@ -523,36 +508,21 @@ module _ (P : Problem) (low high : ℕ → ℕ) (bound : ℕ) (corner : ℕ → 
             ];
       }
 
--- a hunt that goes on from another state
-pub hunted_since : (P : Problem) (low high : ℕ → ℕ) (bound : ℕ) (found₀ found₁ found : Bool) (best₀ best₁ best : ℕ → ℕ) → (found₀ ≡ true → Outdone P found₁ best₁ best₀)
-    → Hunted P low high bound found₁ best₁ found best → Hunted P low high bound found₀ best₀ found best
-hunted_since P low high bound found₀ found₁ found best₀ best₁ best to h =
-    record { candidate = h.candidate; kept = λ e. outdone_trans P found₁ found best₁ best best₀ h.kept (to e); all = h.all }
-
-pub outdone_itself : (P : Problem) (found : Bool) (best : ℕ → ℕ) → found ≡ true → Outdone P found best best
-outdone_itself P found best e = record { there = e; later = nolater_below P.sorts best best (λ s h. le_refl (best s)) }
-
 -- ---- the answer
-pub none_allowed : (P : Problem) (size : ℕ → ℕ) → ((s : ℕ → ℕ) → Allowed P s → ⊥) → LeastSizes P false size
-none_allowed P size n = record { allowed = λ e. absurd (false≢true e); satisfiable = λ e. absurd (false≢true e); first = λ e. absurd (false≢true e); none = λ e s c a k. n s a }
+pub none_satisfiable : (P : Problem) (high : ℕ → ℕ) → WellSorted P → Greatest P high → Barren P high → Unsatisfiable P
+none_satisfiable P high w l n s c a k = n c (larger_sizes P s high c w (l.all s a) k)
 
-pub none_satisfiable : (P : Problem) (size high : ℕ → ℕ) (ok found : Bool) → WellSorted P → ok ≡ true → GreatestSizes P ok high → found ≡ false → Probed P found high → LeastSizes P false size
-none_satisfiable P size high ok found w o l f p =
-    record {
-      allowed = λ e. absurd (false≢true e);
-      satisfiable = λ e. absurd (false≢true e);
-      first = λ e. absurd (false≢true e);
-      none = λ e s c a k. p.no f c (larger_sizes P s high c w (l.all o s a) k);
-    }
-
-pub hunted_least : (P : Problem) (low high : ℕ → ℕ) (ok found₀ : Bool) (best₀ : ℕ → ℕ) (found : Bool) (best : ℕ → ℕ) → ok ≡ true → GreatestSizes P ok high → Raised P low high → Hunted P low high P.total found₀ best₀ found best → LeastSizes P found best
-hunted_least P low high ok found₀ best₀ found best o l r h =
-    record {
-      allowed = λ e. (h.candidate e).allowed;
-      satisfiable = λ e. (h.candidate e).satisfiable;
-      first = λ e size a s. (h.all size (opened size a s)).later;
-      none = λ e size c a k. let x = (h.all size (opened size a (c, k))).there in absurd (false≢true (sym e ∙ x));
-    }
+pub hunted_least : (P : Problem) (low high : ℕ → ℕ) (before after : Option (List ℕ)) → Greatest P high → Raised P low high → Hunted P low high P.total before after → LeastSizes P after
+hunted_least P low high before after l r h = by after h
   where
     opened : (size : ℕ → ℕ) → Allowed P size → Satisfiable P size → Open P low high P.total size
-    opened size a s = record { allowed = a; satisfiable = s; above = r.all size a s; under = l.all o size a; sum = a.total }
+    opened size a s = record { allowed = a; satisfiable = s; above = r.all size a s; under = l.all size a; sum = a.total }
+
+    by : (o : Option (List ℕ)) → Hunted P low high P.total before o → LeastSizes P o
+    by (Some sizes) k =
+        record {
+          allowed = k.candidate.allowed;
+          satisfiable = k.candidate.satisfiable;
+          first = λ size a s. k.all size (opened size a s);
+        }
+    by None k = λ size c a x. k.all size (opened size a (c, x))

@@ -1,8 +1,10 @@
 -- For the proofs alone: what the parts of the hunt for the least sizes promise. A region is the sizes from low to high, sort by sort.
-use Rattle.std.specs.Prelude.{ℕ, ◌≤◌, ◌<◌, ◌≡◌, Bool, true, false, List, set}
+use Rattle.std.specs.Prelude.{ℕ, ◌≤◌, ◌<◌, ◌≡◌, Bool, true, false, List, set, Option, Some, None, IfSome}
 use Rattle.prelude.specs.Lists.{at, sum_to}
 use Rattle.logic.specs.Problem.{Problem, Allowed, Consistent}
 use Rattle.least_sizes.specs.LeastSizes.{Satisfiable, SizesNoLater}
+use Rattle.least_sizes.specs.declared.Looking.{Looking}
+use Rattle.least_sizes.specs.declared.Looking.TheVariants.{Done, Boxed}
 
 -- sizes without consistent codes
 abbrev pub Barren : Problem → (ℕ → ℕ) → Type 0
@@ -29,11 +31,14 @@ pub record Compared (n : ℕ) (answer : Bool) (f g : ℕ → ℕ) : Type 0 where
   pub no : answer ≡ false → SizesNoLater n g f
 
 -- the greatest sizes that ceilings and total leave: what is allowed lies below them
-pub record GreatestSizes (P : Problem) (ok : Bool) (high : ℕ → ℕ) : Type 0 where
-  pub none : ok ≡ false → (size : ℕ → ℕ) → Allowed P size → ⊥
-  pub floors : ok ≡ true → Below P.sorts P.floor high
-  pub ceilings : ok ≡ true → Below P.sorts high P.ceiling
-  pub all : ok ≡ true → (size : ℕ → ℕ) → Allowed P size → Below P.sorts size high
+pub record Greatest (P : Problem) (high : ℕ → ℕ) : Type 0 where
+  pub floors : Below P.sorts P.floor high
+  pub ceilings : Below P.sorts high P.ceiling
+  pub all : (size : ℕ → ℕ) → Allowed P size → Below P.sorts size high
+
+abbrev pub GreatestSizes : Problem → Option (List ℕ) → Type 0
+GreatestSizes P (Some high) = Greatest P (at high)
+GreatestSizes P None = (size : ℕ → ℕ) → Allowed P size → ⊥
 
 -- floors that every allowed sizes with consistent codes lie above
 pub record Raised (P : Problem) (low high : ℕ → ℕ) : Type 0 where
@@ -47,10 +52,14 @@ pub record Contender (P : Problem) (bound : ℕ) (size : ℕ → ℕ) : Type 0 w
   pub satisfiable : Satisfiable P size
   pub sum : sum_to P.sorts size ≤ bound
 
+-- the best so far, if there is one, is a contender
+abbrev pub Candidate : Problem → ℕ → Option (List ℕ) → Type 0
+Candidate P bound best = IfSome best (λ sizes. Contender P bound (at sizes))
+
 -- there is a best so far, and it comes no later than these sizes
-pub record Outdone (P : Problem) (found : Bool) (best size : ℕ → ℕ) : Type 0 where
-  pub there : found ≡ true
-  pub later : SizesNoLater P.sorts best size
+abbrev pub Outdone : Problem → Option (List ℕ) → (ℕ → ℕ) → Type 0
+Outdone P (Some best) size = SizesNoLater P.sorts (at best) size
+Outdone P None size = ⊥
 
 -- a region that a hunt goes through: the sizes from low to high
 pub record Region (P : Problem) (low high : ℕ → ℕ) : Type 0 where
@@ -67,25 +76,22 @@ pub record Open (P : Problem) (low high : ℕ → ℕ) (bound : ℕ) (size : ℕ
   pub sum : sum_to P.sorts size ≤ bound
 
 -- what a hunt through a region makes of the best so far: it comes no later than that, and no later than all that is open
-pub record Hunted (P : Problem) (low high : ℕ → ℕ) (bound : ℕ) (found₀ : Bool) (best₀ : ℕ → ℕ) (found : Bool) (best : ℕ → ℕ) : Type 0 where
-  pub candidate : found ≡ true → Contender P bound best
-  pub kept : found₀ ≡ true → Outdone P found best best₀
-  pub all : (size : ℕ → ℕ) → Open P low high bound size → Outdone P found best size
+pub record Hunted (P : Problem) (low high : ℕ → ℕ) (bound : ℕ) (before after : Option (List ℕ)) : Type 0 where
+  pub candidate : Candidate P bound after
+  pub kept : IfSome before (λ best. Outdone P after (at best))
+  pub all : (size : ℕ → ℕ) → Open P low high bound size → Outdone P after size
 
 -- a value of a range
 pub record Inside (a b r : ℕ) : Type 0 where
   pub least : a ≤ r
   pub most : r < b
 
--- a look at the lowest sizes of a region: the region is done, or they lie in a barren box
-pub record Looked (P : Problem) (low high : ℕ → ℕ) (bound : ℕ) (done : Bool) (box : ℕ → ℕ) (found₀ : Bool) (best₀ : ℕ → ℕ) (found : Bool) (best : ℕ → ℕ) : Type 0 where
-  pub candidate : found ≡ true → Contender P bound best
-  pub kept : found₀ ≡ true → Outdone P found best best₀
-  pub all : done ≡ true → (size : ℕ → ℕ) → Open P low high bound size → Outdone P found best size
-  pub barren : done ≡ false → Barren P box
-  pub inside : done ≡ false → Below P.sorts low box
-
 -- a barren box above some sizes
 pub record Corner (P : Problem) (low corner : ℕ → ℕ) : Type 0 where
   pub inside : Below P.sorts low corner
   pub barren : Barren P corner
+
+-- a look at the lowest sizes of a region: the region is done, or they lie in a barren box
+abbrev pub Looked : Problem → (ℕ → ℕ) → (ℕ → ℕ) → ℕ → Option (List ℕ) → Looking → Type 0
+Looked P low high bound before (Done after) = Hunted P low high bound before after
+Looked P low high bound before (Boxed corner) = Corner P low (at corner)

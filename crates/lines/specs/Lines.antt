@@ -1,18 +1,14 @@
 -- Interface. The answer lines (docs/FORMAT.md, "Asking line by line") of what is wrong with a line, and of read, judge, forced, group and table of a name. The
 -- others stand with their questions: of walk in trails, of sizes in sizings, of find and findat in findings, of fitted in filings, of bundle in bundlings.
-use Rattle.std.specs.Prelude.{ℕ, cond, List, [], ◌∷◌, eqb}
+use Rattle.std.specs.Prelude.{ℕ, Bool, true, false, cond, List, [], ◌∷◌, eqb, Result, Ok, Err}
+use Rattle.prelude.specs.Causes.{number_of}
+use Rattle.prelude.specs.declared.refusal.Refusal.{Refusal}
 use Rattle.text.specs.Ascii.{ascii}
 use Rattle.text.specs.Text.{line, refused_word}
 use Rattle.words.specs.declared.Complaint.{Complaint}
-use Rattle.words.specs.declared.Complaint.TheVariants.{Nothing, TooFew, TooMany, NotHexadecimal, OddDigits, NotNumber, AboveByte}
-use Rattle.sheet.specs.declared.Verdict.{Verdict}
-use Rattle.sheet.specs.declared.Verdict.TheVariants.{Accepted, Refused as Verdict-as-Refused}
+use Rattle.words.specs.declared.Complaint.TheVariants.{TooFew, TooMany, NotHexadecimal, OddDigits, NotNumber, AboveByte}
 use Rattle.tables.specs.declared.Judgement.{Judgement}
-use Rattle.tables.specs.declared.Judgement.TheVariants.{Fits, OutOfBounds, Broken, Refused as Judgement-as-Refused}
-use Rattle.forced.specs.declared.Forcing.{Forcing}
-use Rattle.forced.specs.declared.Forcing.TheVariants.{Yes, No, Refused as Forcing-as-Refused}
-use Rattle.group.specs.declared.Grouping.{Grouping}
-use Rattle.group.specs.declared.Grouping.TheVariants.{Group, Refused as Grouping-as-Refused}
+use Rattle.tables.specs.declared.Judgement.TheVariants.{Fits, OutOfBounds, Broken}
 
 -- a line without a number
 abbrev pub plain_line : List ℕ → List ℕ
@@ -33,7 +29,6 @@ abbrev pub unknown_line : List ℕ
 unknown_line = plain_line (ascii "? unknown verb")
 
 abbrev pub complaint_line : Complaint → List ℕ
-complaint_line Nothing = []
 complaint_line TooFew = plain_line (ascii "? too few words")
 complaint_line TooMany = plain_line (ascii "? too many words")
 complaint_line (NotHexadecimal k) = line (ascii "? not hexadecimal: word") (k ∷ [])
@@ -42,27 +37,27 @@ complaint_line (NotNumber k) = line (ascii "? not a number: word") (k ∷ [])
 complaint_line (AboveByte k) = line (ascii "? above 255: word") (k ∷ [])
 
 -- read
-abbrev pub verdict_line : Verdict → List ℕ
-verdict_line Accepted = plain_line (ascii "accepted")
-verdict_line (Verdict-as-Refused number place) = refusal_line number place
+abbrev pub verdict_line : Result (Unit {0}) Refusal → List ℕ
+verdict_line (Ok u) = plain_line (ascii "accepted")
+verdict_line (Err r) = refusal_line (number_of r.cause) r.place
 
 -- judge
-abbrev pub judgement_line : Judgement → List ℕ
-judgement_line Fits = plain_line (ascii "fits")
-judgement_line OutOfBounds = plain_line (ascii "out of bounds")
-judgement_line (Broken k) = line (ascii "broken") (k ∷ [])
-judgement_line (Judgement-as-Refused number place) = refusal_line number place
+abbrev pub judgement_line : Result Judgement Refusal → List ℕ
+judgement_line (Ok Fits) = plain_line (ascii "fits")
+judgement_line (Ok OutOfBounds) = plain_line (ascii "out of bounds")
+judgement_line (Ok (Broken k)) = line (ascii "broken") (k ∷ [])
+judgement_line (Err r) = refusal_line (number_of r.cause) r.place
 
 -- forced
-abbrev pub forcing_line : Forcing → List ℕ
-forcing_line Yes = plain_line (ascii "yes")
-forcing_line No = plain_line (ascii "no")
-forcing_line (Forcing-as-Refused number place) = refusal_line number place
+abbrev pub forcing_line : Result Bool Refusal → List ℕ
+forcing_line (Ok true) = plain_line (ascii "yes")
+forcing_line (Ok false) = plain_line (ascii "no")
+forcing_line (Err r) = refusal_line (number_of r.cause) r.place
 
 -- group
-abbrev pub grouping_line : Grouping → List ℕ
-grouping_line (Group k) = line (ascii "group") (k ∷ [])
-grouping_line (Grouping-as-Refused number place) = refusal_line number place
+abbrev pub grouping_line : Result ℕ Refusal → List ℕ
+grouping_line (Ok k) = line (ascii "group") (k ∷ [])
+grouping_line (Err r) = refusal_line (number_of r.cause) r.place
 
 -- table of a name
 abbrev pub stretch_line : ℕ → ℕ → List ℕ

@@ -4,12 +4,11 @@
 
 ghost use Rattle.std.specs.Prelude.{◌≤◌, length};
 ghost use Rattle.prelude.specs.Pasted.{Wrote};
-ghost use Rattle.lines.specs.Lines.{complaint_line, verdict_line, judgement_line, forcing_line, grouping_line, stretch_line};
+ghost use Rattle.prelude.specs.Causes.{number_of};
+ghost use Rattle.lines.specs.Lines.{refusal_line, complaint_line, verdict_line, judgement_line, forcing_line, grouping_line, stretch_line};
 
-use forced::Forcing;
-use group::Grouping;
+use prelude::refusal::Refusal;
 use prelude::wide;
-use sheet::Verdict;
 use tables::Judgement;
 use words::Complaint;
 
@@ -19,7 +18,6 @@ pub fn complaint_line(out: &mut [u8], c: Complaint) -> usize
     ensures { Wrote out.old 0 (complaint_line c) out.new result }
 {
     match c {
-        Complaint::Nothing => 0,
         Complaint::TooFew => text::put(out, 0, b"? too few words\n"),
         Complaint::TooMany => text::put(out, 0, b"? too many words\n"),
         Complaint::NotHexadecimal(k) => text::number_line(out, b"? not hexadecimal: word", k),
@@ -31,50 +29,58 @@ pub fn complaint_line(out: &mut [u8], c: Complaint) -> usize
     }
 }
 
+// What any question answers where it is turned down.
+pub fn refusal_line(out: &mut [u8], r: Refusal) -> usize
+    requires { 2048 ≤ length out.old }
+    ensures { Wrote out.old 0 (refusal_line (number_of r.cause) r.place) out.new result }
+{
+    text::refused_line(out, wide(r.cause.number()), r.place)
+}
+
 // The answer to read.
-pub fn verdict_line(out: &mut [u8], v: Verdict) -> usize
+pub fn verdict_line(out: &mut [u8], v: Result<(), Refusal>) -> usize
     requires { 2048 ≤ length out.old }
     ensures { Wrote out.old 0 (verdict_line v) out.new result }
 {
     match v {
-        Verdict::Accepted => text::put(out, 0, b"accepted\n"),
-        Verdict::Refused { number, place } => text::refused_line(out, wide(number), place),
+        Ok(()) => text::put(out, 0, b"accepted\n"),
+        Err(r) => refusal_line(out, r),
     }
 }
 
 // The answer to judge.
-pub fn judgement_line(out: &mut [u8], j: Judgement) -> usize
+pub fn judgement_line(out: &mut [u8], j: Result<Judgement, Refusal>) -> usize
     requires { 2048 ≤ length out.old }
     ensures { Wrote out.old 0 (judgement_line j) out.new result }
 {
     match j {
-        Judgement::Fits => text::put(out, 0, b"fits\n"),
-        Judgement::OutOfBounds => text::put(out, 0, b"out of bounds\n"),
-        Judgement::Broken(k) => text::number_line(out, b"broken", k),
-        Judgement::Refused { number, place } => text::refused_line(out, wide(number), place),
+        Ok(Judgement::Fits) => text::put(out, 0, b"fits\n"),
+        Ok(Judgement::OutOfBounds) => text::put(out, 0, b"out of bounds\n"),
+        Ok(Judgement::Broken(k)) => text::number_line(out, b"broken", k),
+        Err(r) => refusal_line(out, r),
     }
 }
 
 // The answer to forced.
-pub fn forcing_line(out: &mut [u8], f: Forcing) -> usize
+pub fn forcing_line(out: &mut [u8], f: Result<bool, Refusal>) -> usize
     requires { 2048 ≤ length out.old }
     ensures { Wrote out.old 0 (forcing_line f) out.new result }
 {
     match f {
-        Forcing::Yes => text::put(out, 0, b"yes\n"),
-        Forcing::No => text::put(out, 0, b"no\n"),
-        Forcing::Refused { number, place } => text::refused_line(out, wide(number), place),
+        Ok(true) => text::put(out, 0, b"yes\n"),
+        Ok(false) => text::put(out, 0, b"no\n"),
+        Err(r) => refusal_line(out, r),
     }
 }
 
 // The answer to group.
-pub fn grouping_line(out: &mut [u8], g: Grouping) -> usize
+pub fn grouping_line(out: &mut [u8], g: Result<usize, Refusal>) -> usize
     requires { 2048 ≤ length out.old }
     ensures { Wrote out.old 0 (grouping_line g) out.new result }
 {
     match g {
-        Grouping::Group(k) => text::number_line(out, b"group", k),
-        Grouping::Refused { number, place } => text::refused_line(out, wide(number), place),
+        Ok(k) => text::number_line(out, b"group", k),
+        Err(r) => refusal_line(out, r),
     }
 }
 

@@ -2,16 +2,18 @@
 -- counted by a common mask, by one label, or, of terms of one symbol, by pairs of what counts their arguments.
 use Prim.Native.Nat.{ℕ, zero, suc, ◌+◌, ◌-◌, ◌*◌, ◌/◌, ◌%◌, ◌^◌, ◌≤◌, ◌<◌}
 use mathlib.Core.Path.{◌≡◌, refl, sym, ap, subst, ◌∙◌}
-use mathlib.Core.List.{List}
+use mathlib.Core.List.{List, [], ◌∷◌, ◌++◌}
 use mathlib.Core.Logic.{◌⊎◌, inl, inr}
 use native.Mathlib.Nat.{mod-lt}
 use native.Mathlib.Omega.{arith}
 use borrow.Author.Count.{below_more}
-use lib.ListN.{length, set, length-set, replicate}
+use lib.ListN.{length, length-append, get_or-append}
+use lib.Seq.{get_or-append_seam}
 use lib.Bits.{bit_and, and_shr, and_step}
 use Rattle.prelude.specs.Lists.{at}
-use Rattle.prelude.proofs.Lists.{at_set_same, at_set_other}
 use Rattle.prelude.proofs.Rows.{next_row}
+use Rattle.knowledge.specs.declared.Known.{Known}
+use Rattle.knowledge.specs.declared.terms.Terms.{Terms}
 use Rattle.knowledge.specs.Knows.{Bit, Labels, Masks, Marks, SmallCodes, Same, Differ, Means}
 use Rattle.knowledge.proofs.Bits.{digit, compare}
 use Rattle.rules.specs.Reasons.{LawfulGrouped, KnownLawful}
@@ -117,8 +119,8 @@ cell_column r s r' s' n q e =
     omega arith
 
 -- what counts a list: a mask, one code for all, pairs of what counts the arguments
-pub mask_counted : (l w list : List ℕ) (k x r : ℕ) → r ≡ left_below x 16 → Means (λ c. Labels l c × Masks w c) (Free x list k) → Means (λ c. SmallCodes c × (Labels l c × Masks w c)) (Counted list k r)
-mask_counted l w list k x r e free =
+pub mask_counted : (l w list : List ℕ) (x r : ℕ) → r ≡ left_below x 16 → Means (λ c. Labels l c × Masks w c) (Free x list) → Means (λ c. SmallCodes c × (Labels l c × Masks w c)) (Counted list r)
+mask_counted l w list x r e free =
     rw e
     (record {
       means = λ c h. record {
@@ -128,46 +130,42 @@ mask_counted l w list k x r e free =
       };
     })
 
-pub one_code_counted : (l w list : List ℕ) (k : ℕ) → Means (Labels l) (OneCode list k) → Means (λ c. SmallCodes c × (Labels l c × Masks w c)) (Counted list k 1)
-one_code_counted l w list k one =
+pub one_code_counted : (l w list : List ℕ) → Means (Labels l) (OneCode list) → Means (λ c. SmallCodes c × (Labels l c × Masks w c)) (Counted list 1)
+one_code_counted l w list one =
     record {
       means = λ c h.
           let all = one.means c h.1.0 in
           record { key = λ a. 0; below = λ a ha. omega arith; same = λ a b ha hb q. all a ha ∙ sym (all b hb) };
     }
 
-pub pairs_counted : (n : ℕ) (symbol arg0 arg1 l w list firsts seconds : List ℕ) (k x y : ℕ) → n ≤ 128 → OneSymbol n symbol list k → Arguments arg0 list k firsts → Arguments arg1 list k seconds
-    → Means (LawfulGrouped n symbol arg0 arg1 l w) (Counted firsts k x) → Means (LawfulGrouped n symbol arg0 arg1 l w) (Counted seconds k y) → Means (LawfulGrouped n symbol arg0 arg1 l w) (Counted list k (x * y))
-pairs_counted n symbol arg0 arg1 l w list firsts seconds k x y few of first second one two =
+pub pairs_counted : (t : Terms) (l w list firsts seconds : List ℕ) (x y : ℕ) → OneSymbol t list → Arguments t.arg0.now list firsts → Arguments t.arg1.now list seconds
+    → Means (LawfulGrouped t l w) (Counted firsts x) → Means (LawfulGrouped t l w) (Counted seconds y) → Means (LawfulGrouped t l w) (Counted list (x * y))
+pairs_counted t l w list firsts seconds x y of first second one two =
     record {
       means = λ c s.
           let p = one.means c s in
           let q = two.means c s in
-          let small : (a : ℕ) → a < k → at list a < 128 = λ a ha. let t = of.terms a ha in omega arith in
+          let small : (a : ℕ) → a < length list → at list a < 128 = λ a ha. let below = of.terms a ha in omega (arith, t.few) in
+          let m = first.many in
+          let n = second.many in
           record {
             key = λ a. p.key a * y + q.key a;
-            below = λ a ha. cell_below (p.key a) (q.key a) x y (p.below a ha) (q.below a ha);
+            below = λ a ha. cell_below (p.key a) (q.key a) x y (p.below a (omega arith)) (q.below a (omega arith));
             same = λ a b ha hb e.
-                let rows = cell_row (p.key a) (q.key a) (p.key b) (q.key b) y (q.below a ha) (q.below b hb) e in
+                let rows = cell_row (p.key a) (q.key a) (p.key b) (q.key b) y (q.below a (omega arith)) (q.below b (omega arith)) e in
                 let columns = cell_column (p.key a) (q.key a) (p.key b) (q.key b) y rows e in
                 s.lawful.congruent (at list a) (at list b) (of.terms a ha) (of.terms b hb) (of.symbols a b ha hb)
-                (ap c (sym (first a ha (small a ha))) ∙ p.same a b ha hb rows ∙ ap c (first b hb (small b hb)))
-                (ap c (sym (second a ha (small a ha))) ∙ q.same a b ha hb columns ∙ ap c (second b hb (small b hb)));
+                (ap c (sym (first.each a ha (small a ha))) ∙ p.same a b (omega arith) (omega arith) rows ∙ ap c (first.each b hb (small b hb)))
+                (ap c (sym (second.each a ha (small a ha))) ∙ q.same a b (omega arith) (omega arith) columns ∙ ap c (second.each b hb (small b hb)));
           };
     }
 
-pub settled_counted : (n : ℕ) (symbol arg0 arg1 l w list : List ℕ) (k r : ℕ) → Means (λ c. SmallCodes c × (Labels l c × Masks w c)) (Counted list k r) → Means (LawfulGrouped n symbol arg0 arg1 l w) (Counted list k r)
-settled_counted n symbol arg0 arg1 l w list k r p = record { means = λ c s. p.means c (s.lawful.small, (s.labels, s.masks)) }
-
--- a crowd has one symbol, and no codes are known of one with more terms than what counts them
-pub crowd_symbol : {n : ℕ} {symbol l w m : List ℕ} {f i : ℕ} {chosen : List ℕ} {k : ℕ} → Gathered n symbol l w m f i chosen k → OneSymbol n symbol chosen k
-crowd_symbol g = record { terms = g.terms; symbols = λ a b ha hb. g.symbols a ha ∙ sym (g.symbols b hb) }
-
-pub crowd_none : (n : ℕ) (symbol arg0 arg1 l w m : List ℕ) (f i : ℕ) (chosen : List ℕ) (k r : ℕ) (c : ℕ → ℕ) → Gathered n symbol l w m f i chosen k → Means (LawfulGrouped n symbol arg0 arg1 l w) (Counted chosen k r) → r < k → KnownLawful n symbol arg0 arg1 l w m c → ⊥
-crowd_none n symbol arg0 arg1 l w m f i chosen k r c g counted more known =
-    let p = counted.means c (record { lawful = known.lawful; labels = known.knows.labels; masks = known.knows.masks }) in
-    let apart = g.apart.means c (record { small = known.lawful.small; knows = known.knows }) in
-    let few : k ≤ r = pigeon r k p.key p.below (λ a b ab bk e. apart a b ab bk (p.same a b (omega arith) bk e)) in
+-- no codes are known of a crowd with more terms than what counts them
+pub crowd_none : (t : Terms) (known : Known) (f i : ℕ) (chosen : List ℕ) (r : ℕ) (c : ℕ → ℕ) → Gathered t known f i chosen → Means (LawfulGrouped t known.labels known.masks) (Counted chosen r) → r < length chosen → KnownLawful t known c → ⊥
+crowd_none t known f i chosen r c g counted more held =
+    let p = counted.means c (record { lawful = held.lawful; labels = held.knows.labels; masks = held.knows.masks }) in
+    let apart = g.apart.means c (record { small = held.lawful.small; knows = held.knows }) in
+    let few : length chosen ≤ r = pigeon r (length chosen) p.key p.below (λ a b ab bk e. apart a b ab bk (p.same a b (omega arith) bk e)) in
     absurd (omega arith)
 
 -- a bit of the codes common to two masks is a bit of both
@@ -193,89 +191,60 @@ both a b h =
 bit_and_lem : (a b v : ℕ) → Bit (bit_and a b) v → Bit a v × Bit b v
 bit_and_lem a b v h = both (a / 2 ^ v) (b / 2 ^ v) (rw (and_shr a b v) at h)
 
--- the empty crowd, a term that is passed over, the last of the terms, and one that is taken
-pub nobody : (n : ℕ) (symbol l w m : List ℕ) (f : ℕ) → Gathered n symbol l w m f 0 (replicate 128 0) 0
-nobody n symbol l w m f =
-    record {
-      length = refl;
-      few = omega arith;
-      terms = λ a h. absurd (omega arith);
-      symbols = λ a h. absurd (omega arith);
-      apart = record { means = λ c h a b ab bk. absurd (omega arith) };
-    }
+-- the entries of a list with one more at its end
+early : (l : List ℕ) (x a : ℕ) → a < length l → at (l ++ x ∷ []) a ≡ at l a
+early l x a h = get_or-append l (x ∷ []) 0 a h
 
-pub passed : {n : ℕ} {symbol l w m : List ℕ} {f i : ℕ} {chosen : List ℕ} {k : ℕ} → Gathered n symbol l w m f i chosen k → Gathered n symbol l w m f (i + 1) chosen k
-passed g = let few = g.few in record { length = g.length; few = omega arith; terms = g.terms; symbols = g.symbols; apart = g.apart }
+late : (l : List ℕ) (x a : ℕ) → a ≡ length l → at (l ++ x ∷ []) a ≡ x
+late l x a e = ap (at (l ++ x ∷ [])) e ∙ get_or-append_seam l x [] 0
 
-pub ended : {n : ℕ} {symbol l w m : List ℕ} {f i j : ℕ} {chosen : List ℕ} {k : ℕ} → i ≡ j → Gathered n symbol l w m f i chosen k → Gathered n symbol l w m f j chosen k
-ended e g = let few = g.few in record { length = g.length; few = omega arith; terms = g.terms; symbols = g.symbols; apart = g.apart }
+longer : (l : List ℕ) (x : ℕ) → length (l ++ x ∷ []) ≡ length l + 1
+longer l x = length-append l (x ∷ [])
 
--- what holds of the first k and of the next holds of the first k + 1
-more : (P : ℕ → Type 0) (chosen : List ℕ) (k i : ℕ) → k < length chosen → ((a : ℕ) → a < k → P (at chosen a)) → P i → (a : ℕ) → a < k + 1 → P (at (set chosen k i) a)
-more P chosen k i short all one a h =
-    elim (compare a k) [
-      | inl l ↦ rw (at_set_other chosen k i a (λ e. absurd (omega arith))) (all a l)
-      | inr d ↦ elim d [ inl e ↦ rw (e, at_set_same chosen k i short) one | inr g ↦ absurd (omega arith) ]
+-- what holds of each of a list and of one more holds of each of the list with that at its end
+more : (P : ℕ → Type 0) (l : List ℕ) (x : ℕ) → ((a : ℕ) → a < length l → P (at l a)) → P x → (a : ℕ) → a < length (l ++ x ∷ []) → P (at (l ++ x ∷ []) a)
+more P l x all one a h =
+    let len = longer l x in
+    elim (compare a (length l)) [
+      | inl b ↦ rw (early l x a b) (all a b)
+      | inr d ↦ elim d [ inl e ↦ rw (late l x a e) one | inr g ↦ absurd (omega arith) ]
     ]
 
-pub taken : (n : ℕ) (symbol l w m : List ℕ) (f i : ℕ) (chosen : List ℕ) (k : ℕ) → n ≤ 128 → i < n → Gathered n symbol l w m f i chosen k → at symbol i ≡ f → Means (KnownSmall l w m) (Unlike chosen k i) → Gathered n symbol l w m f (i + 1) (set chosen k i) (k + 1)
-taken n symbol l w m f i chosen k hn hi g e other =
+-- a crowd with one more term
+pub taken : (t : Terms) (known : Known) (f i : ℕ) (chosen : List ℕ) → i < t.n → Gathered t known f i chosen → at t.symbol.now i ≡ f → Unlike known chosen i → Gathered t known f (i + 1) (chosen ++ i ∷ [])
+taken t known f i chosen hi g e other =
     let few = g.few in
-    let len = g.length in
-    let short : k < length chosen = omega arith in
+    let len = longer chosen i in
     record {
-      length = simp length-set len;
       few = omega arith;
-      terms = more (λ t. t < n) chosen k i short g.terms hi;
-      symbols = more (λ t. at symbol t ≡ f) chosen k i short g.symbols e;
+      terms = more (λ x. x < t.n) chosen i g.terms hi;
+      symbols = more (λ x. at t.symbol.now x ≡ f) chosen i g.symbols e;
       apart = record {
         means = λ c h a b ab hb q.
-            let sa = at_set_other chosen k i a (λ z. absurd (omega arith)) in
-            elim (compare b k) [
-              | inl lb ↦ g.apart.means c h a b ab lb (ap c (sym sa) ∙ q ∙ ap c (at_set_other chosen k i b (λ z. absurd (omega arith))))
+            let sa = early chosen i a (omega arith) in
+            elim (compare b (length chosen)) [
+              | inl lb ↦ g.apart.means c h a b ab lb (ap c (sym sa) ∙ q ∙ ap c (early chosen i b lb))
               | inr d ↦ elim d [
-                | inl eb ↦ other.means c h a (omega arith) (ap c (sym sa) ∙ q ∙ ap (λ (z : ℕ). c (at (set chosen k i) z)) eb ∙ ap c (at_set_same chosen k i short))
+                | inl eb ↦ (other a (omega arith)).means c h (ap c (sym sa) ∙ q ∙ ap c (late chosen i b eb))
                 | inr gb ↦ absurd (omega arith)
               ]
             ];
       };
     }
 
--- one more of those that are chosen
-pub unlike_more : (l w m chosen : List ℕ) (k i g h : ℕ) → Means (KnownSmall l w m) (Unlike chosen k i) → Means (Labels l) (Same g i) → Means (Labels l) (Same h (at chosen k)) → Means (λ c. SmallCodes c × (Masks w c × Marks m c)) (Differ h g) → Means (KnownSmall l w m) (Unlike chosen (k + 1) i)
-unlike_more l w m chosen k i g h old lg lh d =
+-- a term that differs from one that is chosen, by the labels of both
+pub unlike_one : (known : Known) (i g h t : ℕ) → Means (Labels known.labels) (Same g i) → Means (Labels known.labels) (Same h t) → Means (λ c. SmallCodes c × (Masks known.masks c × Marks known.marks c)) (Differ h g) → Means (KnownSmall known) (Differ t i)
+unlike_one known i g h t lg lh d =
     record {
-      means = λ c x a ha e.
-          elim (compare a k) [
-            | inl q ↦ old.means c x a q e
-            | inr r ↦ elim r [
-              | inl q ↦ d.means c (x.small, (x.knows.masks, x.knows.marks)) (lh.means c x.knows.labels ∙ ap c (ap (at chosen) (sym q)) ∙ e ∙ sym (lg.means c x.knows.labels))
-              | inr q ↦ absurd (omega arith)
-            ]
-          ];
+      means = λ c x e. d.means c (x.small, (x.knows.masks, x.knows.marks)) (lh.means c x.knows.labels ∙ e ∙ sym (lg.means c x.knows.labels));
     }
 
--- one more of a list: its code, its mask, its argument
-pub one_code_more : (l list : List ℕ) (k g h : ℕ) → Means (Labels l) (OneCode list k) → Means (Labels l) (Same g (at list 0)) → Means (Labels l) (Same h (at list k)) → h ≡ g → Means (Labels l) (OneCode list (k + 1))
-one_code_more l list k g h old lg lh e =
-    record {
-      means = λ c x. below_more _ k (old.means c x) (sym (lh.means c x) ∙ ap c e ∙ lg.means c x);
-    }
-
-pub common_more : (l w list : List ℕ) (k x y g : ℕ) → Means (λ c. Labels l c × Masks w c) (Free x list k) → Means (Labels l) (Same g (at list k)) → Means (Masks w) (λ c. Bit y (c g) → ⊥) → Means (λ c. Labels l c × Masks w c) (Free (bit_and x y) list (k + 1))
+-- one more of a list and its mask
+pub common_more : (l w list : List ℕ) (k x y g : ℕ) → Means (λ c. Labels l c × Masks w c) (λ c. (a : ℕ) → a < k → Bit x (c (at list a)) → ⊥) → Means (Labels l) (Same g (at list k)) → Means (Masks w) (λ c. Bit y (c g) → ⊥)
+    → Means (λ c. Labels l c × Masks w c) (λ c. (a : ℕ) → a < k + 1 → Bit (bit_and x y) (c (at list a)) → ⊥)
 common_more l w list k x y g old lg free =
     record {
       means = λ c h.
           below_more _ k (λ a ha b. old.means c h a ha (bit_and_lem x y _ b).0)
           (λ b. free.means c h.1 (subst (Bit y) (sym (lg.means c h.0)) (bit_and_lem x y _ b).1));
     }
-
-pub arguments_more : (args list : List ℕ) (k : ℕ) (r : List ℕ) (v t : ℕ) → k < length r → Arguments args list k r → t ≡ at list k → (t < 128 → v ≡ at args t) → Arguments args list (k + 1) (set r k v)
-arguments_more args list k r v t short old e new a ha small =
-    elim (compare a k) [
-      | inl l ↦ at_set_other r k v a (λ z. absurd (omega arith)) ∙ old a l small
-      | inr d ↦ elim d [
-        | inl q ↦ let s : t ≡ at list a = e ∙ ap (at list) (sym q) in ap (at (set r k v)) q ∙ at_set_same r k v short ∙ new (omega arith) ∙ ap (at args) s
-        | inr g ↦ absurd (omega arith)
-      ]
-    ]

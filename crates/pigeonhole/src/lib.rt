@@ -2,158 +2,134 @@
 // that are terms of one symbol themselves are counted the same way.
 #![tactic(auto)]
 
-ghost use Rattle.std.specs.Prelude.{◌≡◌, true, ◌+◌, ◌*◌, ◌≤◌, ◌<◌};
+ghost use Rattle.std.specs.Prelude.{◌≡◌, true, ◌+◌, ◌*◌, ◌≤◌, ◌<◌, ℕ, List, [], ◌∷◌, ◌++◌, length, take};
 ghost use Rattle.prelude.specs.Limits.{most_terms, most_codes};
 ghost use Rattle.prelude.specs.Lists.{at};
-ghost use Rattle.knowledge.specs.Knows.{Labels, Masks, SmallCodes, Means, Kept};
+ghost use Rattle.knowledge.specs.Knows.{Labels, Masks, SmallCodes, Differ, Means, Struck};
 ghost use Rattle.rules.specs.Reasons.{LawfulGrouped, KnownLawful};
 ghost use Rattle.pigeonhole.specs.Parts.{left_below, KnownSmall, Unlike, Gathered, OneCode, Free, Counted, OneSymbol, Arguments};
 
-use knowledge::{MARK_HALVES, NO_CODE_LEFT, apart, label, mask, strike};
+use knowledge::{Known, NO_CODE_LEFT, Terms};
 use prelude::{BYTE_VALUES, MISSING, MOST_CODES, MOST_TERMS, wide};
+use std::marker::Model;
 
 // How many levels of arguments are looked at below those of a crowd.
 const LEVELS: usize = 3;
 
-// Terms of one symbol whose codes all differ: the first of those that are chosen.
+// A list of terms in fixed memory: the first of an array.
 #[derive(Drop)]
-struct Crowd {
-    chosen: [u8; MOST_TERMS],
+struct Listed {
+    terms: [u8; MOST_TERMS],
     count: usize,
 }
 
+impl Model for Listed {
+    ghost Value = { List ℕ };
+
+    ghost view = { λ l. take l.count l.terms };
+
+    ghost invariant = { λ l. l.count ≤ most_terms };
+}
+
+impl Listed {
+    fn new() -> Self
+        ensures { result ≡ [] }
+    {
+        Listed {
+            terms: [0; MOST_TERMS],
+            count: 0,
+        }
+    }
+
+    fn push(&mut self, term: u8)
+        requires { length self.old < most_terms }
+        ensures { self.new ≡ self.old ++ term ∷ [] }
+    {
+        self.terms[self.count] = term;
+        self.count += 1;
+    }
+
+    fn as_slice(&self) -> &[u8]
+        ensures { result.now ≡ self.now }
+    {
+        &self.terms[..self.count]
+    }
+
+    // To a list of terms of one symbol whose codes all differ: takes one more term, if that is of the symbol and known to differ from
+    // the others.
+    fn grow<'a>(&mut self, known: &'a Known, terms: Terms<'a>, f: u8, i: usize)
+        requires term { i < terms.n }
+        requires gathered { Gathered terms known.now f i self.old }
+        ensures { Gathered terms.entry known.now f (i + 1) self.new }
+    {
+        let e = terms.symbol[i];
+        if e != f {
+            return;
+        }
+        if !unlike(known, self.as_slice(), i) {
+            return;
+        }
+        self.push(i as u8);
+    }
+}
+
 // R6: a crowd with too few pairs of argument codes is a conflict.
-pub fn strike_crowds<'a>(
-    masks: &mut [u16; MOST_TERMS],
-    labels: &'a [u8; MOST_TERMS],
-    marks: &'a [u64; MARK_HALVES],
-    symbol: &'a [u8; MOST_TERMS],
-    arg0: &'a [u8; MOST_TERMS],
-    arg1: &'a [u8; MOST_TERMS],
-    n: usize,
-) -> bool
-    requires { n ≤ most_terms }
-    ensures { Kept (KnownLawful n symbol.now arg0.now arg1.now labels.now masks.old marks.now) (Masks masks.old) (Masks masks.new) }
+pub fn strike_crowds<'a>(known: &mut Known, terms: Terms<'a>) -> bool
+    ensures { Struck (KnownLawful terms.entry known.old) known.old known.new }
 {
-    let mut met = [0u8; BYTE_VALUES];
+    let mut met = [false; BYTE_VALUES];
     let mut news = false;
-    let mut i: usize = 0;
-    while i < n {
-        news = meet_symbol(masks, &mut met, labels, marks, symbol, arg0, arg1, n, i) | news;
-        i += 1;
+    for i in 0..terms.n {
+        news = meet_symbol(known, &mut met, terms, i) | news;
     }
     news
 }
 
 // Whether a term is known to differ from all that are chosen.
-fn unlike<'a>(
-    labels: &'a [u8; MOST_TERMS],
-    masks: &'a [u16; MOST_TERMS],
-    marks: &'a [u64; MARK_HALVES],
-    chosen: &'a [u8; MOST_TERMS],
-    k: usize,
-    i: usize,
-) -> bool
-    requires { (k ≤ most_terms) × (i < most_terms) }
-    ensures { result ≡ true → Means (KnownSmall labels.now masks.now marks.now) (Unlike chosen.now k i) }
+fn unlike<'a>(known: &'a Known, chosen: &'a [u8], i: usize) -> bool
+    requires { i < most_terms }
+    ensures { result ≡ true → Unlike known.now chosen.now i }
 {
-    let g = labels[i];
-    let mut a: usize = 0;
-    while a < k {
-        let h = label(labels, chosen[a]);
-        if !apart(masks, marks, wide(h), wide(g)) {
-            return false;
-        }
-        a += 1;
-    }
-    true
+    chosen.iter().all(|a| differ(known, *a, i))
 }
 
-// A crowd with one more term, if that is of the symbol and known to differ from the others.
-fn grow<'a>(
-    g: Crowd,
-    masks: &'a [u16; MOST_TERMS],
-    labels: &'a [u8; MOST_TERMS],
-    marks: &'a [u64; MARK_HALVES],
-    symbol: &'a [u8; MOST_TERMS],
-    n: usize,
-    f: u8,
-    i: usize,
-) -> Crowd
-    requires n_le_most_terms { (n ≤ most_terms) × (i < n) }
-    requires gathered { Gathered n symbol.now labels.now masks.now marks.now f i g.chosen g.count }
-    ensures { Gathered n symbol.now labels.now masks.now marks.now f (i + 1) result.chosen result.count }
+// Whether two terms are known to differ.
+fn differ(known: &Known, a: u8, i: usize) -> bool
+    requires { i < most_terms }
+    ensures { result ≡ true → Means (KnownSmall known.now) (Differ a i) }
 {
-    let e = symbol[i];
-    if e != f {
-        return g;
-    }
-    let k = g.count;
-    let mut chosen = g.chosen;
-    if !unlike(labels, masks, marks, &chosen, k, i) {
-        return g;
-    }
-    chosen[k] = i as u8;
-    let count = k + 1;
-    Crowd { chosen, count }
+    known.apart(wide(known.label(a)), wide(known.labels[i]))
 }
 
-// A crowd of a symbol, each term taken where it can be.
-fn gather<'a>(
-    masks: &'a [u16; MOST_TERMS],
-    labels: &'a [u8; MOST_TERMS],
-    marks: &'a [u64; MARK_HALVES],
-    symbol: &'a [u8; MOST_TERMS],
-    n: usize,
-    f: u8,
-) -> Crowd
-    requires { n ≤ most_terms }
-    ensures { Gathered n symbol.now labels.now masks.now marks.now f n result.chosen result.count }
+// A crowd of a symbol, terms whose codes all differ: each term is taken where it can be.
+fn gather<'a>(known: &'a Known, terms: Terms<'a>, f: u8) -> Listed
+    ensures { Gathered terms.entry known.now f terms.entry.n result }
 {
-    let mut g = Crowd {
-        chosen: [0u8; MOST_TERMS],
-        count: 0,
-    };
-    let mut i: usize = 0;
-    while i < n {
-        let next = grow(g, masks, labels, marks, symbol, n, f, i);
-        g = next;
-        i += 1;
+    let mut g = Listed::new();
+    for i in 0..terms.n {
+        g.grow(known, terms, f, i);
     }
     g
 }
 
-// Whether the first k of a list have one label.
-fn one_label<'a>(labels: &'a [u8; MOST_TERMS], list: &'a [u8; MOST_TERMS], k: usize) -> bool
-    requires { k ≤ most_terms }
-    ensures { result ≡ true → Means (Labels labels.now) (OneCode list.now k) }
+// Whether the terms of a list have one label.
+fn one_label<'a>(known: &'a Known, list: &'a [u8]) -> bool
+    ensures { result ≡ true → Means (Labels known.now.labels) (OneCode list.now) }
 {
-    let g = label(labels, list[0]);
-    let mut a: usize = 0;
-    while a < k {
-        if label(labels, list[a]) != g {
-            return false;
-        }
-        a += 1;
-    }
-    true
+    let Some(first) = list.first() else {
+        return true;
+    };
+    let g = known.label(*first);
+    list.iter().all(|a| known.label(*a) == g)
 }
 
-// The codes that none of the first k of a list can have.
-fn common<'a>(
-    labels: &'a [u8; MOST_TERMS],
-    masks: &'a [u16; MOST_TERMS],
-    list: &'a [u8; MOST_TERMS],
-    k: usize,
-) -> u16
-    requires { k ≤ most_terms }
-    ensures { Means (λ c. Labels labels.now c × Masks masks.now c) (Free result list.now k) }
+// The codes that none of a list can have.
+fn common<'a>(known: &'a Known, list: &'a [u8]) -> u16
+    ensures { Means (λ c. Labels known.now.labels c × Masks known.now.masks c) (Free result list.now) }
 {
     let mut w: u16 = NO_CODE_LEFT;
-    let mut a: usize = 0;
-    while a < k {
-        w = w & mask(masks, wide(label(labels, list[a])));
-        a += 1;
+    for a in list {
+        w = w & known.mask(wide(known.label(*a)));
     }
     w
 }
@@ -163,28 +139,20 @@ fn left(w: u16) -> usize
     ensures { (result ≡ left_below w most_codes) × (result ≤ most_codes) }
 {
     let mut n: usize = 0;
-    let mut v: usize = 0;
-    while v < MOST_CODES {
+    for v in 0..MOST_CODES {
         n += 1 - ((w >> v) % 2) as usize;
-        v += 1;
     }
     n
 }
 
-// How many codes the first k of a list can have between them, by their labels and masks.
-fn values<'a>(
-    labels: &'a [u8; MOST_TERMS],
-    masks: &'a [u16; MOST_TERMS],
-    list: &'a [u8; MOST_TERMS],
-    k: usize,
-) -> usize
-    requires { k ≤ most_terms }
-    ensures { Means (λ c. SmallCodes c × (Labels labels.now c × Masks masks.now c)) (Counted list.now k result) × (result ≤ most_codes) }
+// How many codes the terms of a list can have between them, by their labels and masks.
+fn values<'a>(known: &'a Known, list: &'a [u8]) -> usize
+    ensures { Means (λ c. SmallCodes c × (Labels known.now.labels c × Masks known.now.masks c)) (Counted list.now result) × (result ≤ most_codes) }
 {
-    if one_label(labels, list, k) {
+    if one_label(known, list) {
         return 1;
     }
-    left(common(labels, masks, list, k))
+    left(common(known, list))
 }
 
 // What an array has for a term; MISSING for a number past the terms.
@@ -194,149 +162,98 @@ fn of_term(xs: &[u8; MOST_TERMS], i: usize) -> u8
     if i < MOST_TERMS { xs[i] } else { MISSING }
 }
 
-// Whether the first k of a list are terms of one symbol.
-fn one_symbol<'a>(
-    symbol: &'a [u8; MOST_TERMS],
-    n: usize,
-    list: &'a [u8; MOST_TERMS],
-    k: usize,
-) -> bool
-    requires { (n ≤ most_terms) × (k ≤ most_terms) }
-    ensures { result ≡ true → OneSymbol n symbol.now list.now k }
+// Whether a list is of terms of one symbol.
+fn one_symbol<'a>(terms: Terms<'a>, list: &'a [u8]) -> bool
+    ensures { result ≡ true → OneSymbol terms.entry list.now }
 {
-    let f = of_term(symbol, wide(list[0]));
-    let mut a: usize = 0;
-    while a < k {
-        let i = wide(list[a]);
-        if n <= i {
-            return false;
-        }
-        if symbol[i] != f {
-            return false;
-        }
-        a += 1;
-    }
-    true
+    let Some(first) = list.first() else {
+        return true;
+    };
+    let f = of_term(terms.symbol, wide(*first));
+    list.iter().all(|a| {
+        let i = wide(*a);
+        i < terms.n && terms.symbol[i] == f
+    })
 }
 
-// The arguments of the first k of a list, which are at one place.
-fn arguments<'a>(
-    args: &'a [u8; MOST_TERMS],
-    list: &'a [u8; MOST_TERMS],
-    k: usize,
-) -> [u8; MOST_TERMS]
-    requires { k ≤ most_terms }
-    ensures { Arguments args.now list.now k result }
+// The arguments of the terms of a list, which are at one place.
+fn arguments<'a>(args: &'a [u8; MOST_TERMS], list: &'a [u8]) -> Listed
+    requires { length list.now ≤ most_terms }
+    ensures { Arguments args.now list.now result }
 {
-    let mut r = [MISSING; MOST_TERMS];
-    let mut a: usize = 0;
-    while a < k {
-        r[a] = of_term(args, wide(list[a]));
-        a += 1;
+    let mut r = Listed::new();
+    for a in list {
+        r.push(of_term(args, wide(*a)));
     }
     r
 }
 
-// How many pairs of codes the arguments of the first k of a list, terms of one symbol, can have between them.
+// How many pairs of codes the arguments of a list, terms of one symbol, can have between them.
 #[cycle(pairs_reach)]
-fn pairs<'a>(
-    masks: &'a [u16; MOST_TERMS],
-    labels: &'a [u8; MOST_TERMS],
-    symbol: &'a [u8; MOST_TERMS],
-    arg0: &'a [u8; MOST_TERMS],
-    arg1: &'a [u8; MOST_TERMS],
-    n: usize,
-    list: &'a [u8; MOST_TERMS],
-    k: usize,
-    levels: usize,
-) -> usize
-    requires n_le_most_terms { (n ≤ most_terms) × (k ≤ most_terms) }
-    requires one_symbol { OneSymbol n symbol.now list.now k }
-    ensures { Means (LawfulGrouped n symbol.now arg0.now arg1.now labels.now masks.now) (Counted list.now k result) × (result ≤ most_codes * most_codes) }
+fn pairs<'a>(known: &'a Known, terms: Terms<'a>, list: &'a [u8], levels: usize) -> usize
+    requires short { length list.now ≤ most_terms }
+    requires one_symbol { OneSymbol terms list.now }
+    ensures { Means (LawfulGrouped terms.entry known.now.labels known.now.masks) (Counted list.now result) × (result ≤ most_codes * most_codes) }
 {
-    let firsts = arguments(arg0, list, k);
-    let seconds = arguments(arg1, list, k);
-    let x = reach(masks, labels, symbol, arg0, arg1, n, &firsts, k, levels);
-    let y = reach(masks, labels, symbol, arg0, arg1, n, &seconds, k, levels);
+    let firsts = arguments(terms.arg0, list);
+    let seconds = arguments(terms.arg1, list);
+    let x = reach(known, terms, firsts.as_slice(), levels);
+    let y = reach(known, terms, seconds.as_slice(), levels);
     x * y
 }
 
-// How many codes the first k of a list can have between them, by their masks or by their arguments.
+// How many codes the terms of a list can have between them, by their masks or by their arguments.
 #[cycle(pairs_reach)]
-fn reach<'a>(
-    masks: &'a [u16; MOST_TERMS],
-    labels: &'a [u8; MOST_TERMS],
-    symbol: &'a [u8; MOST_TERMS],
-    arg0: &'a [u8; MOST_TERMS],
-    arg1: &'a [u8; MOST_TERMS],
-    n: usize,
-    list: &'a [u8; MOST_TERMS],
-    k: usize,
-    levels: usize,
-) -> usize
-    requires { (n ≤ most_terms) × (k ≤ most_terms) }
-    ensures { Means (LawfulGrouped n symbol.now arg0.now arg1.now labels.now masks.now) (Counted list.now k result) × (result ≤ most_codes) }
+fn reach<'a>(known: &'a Known, terms: Terms<'a>, list: &'a [u8], levels: usize) -> usize
+    requires { length list.now ≤ most_terms }
+    ensures { Means (LawfulGrouped terms.entry known.now.labels known.now.masks) (Counted list.now result) × (result ≤ most_codes) }
 {
-    let whole = values(labels, masks, list, k);
+    let whole = values(known, list);
     if levels == 0 {
         return whole;
     }
-    if !one_symbol(symbol, n, list, k) {
+    if !one_symbol(terms, list) {
         return whole;
     }
-    let both = pairs(masks, labels, symbol, arg0, arg1, n, list, k, levels - 1);
+    let both = pairs(known, terms, list, levels - 1);
     if both < whole { both } else { whole }
 }
 
 // R6 of one symbol: more terms in its crowd than pairs of argument codes leave no code to a term i.
-fn strike_crowd<'a>(
-    masks: &mut [u16; MOST_TERMS],
-    labels: &'a [u8; MOST_TERMS],
-    marks: &'a [u64; MARK_HALVES],
-    symbol: &'a [u8; MOST_TERMS],
-    arg0: &'a [u8; MOST_TERMS],
-    arg1: &'a [u8; MOST_TERMS],
-    n: usize,
-    i: usize,
-) -> bool
-    requires { (n ≤ most_terms) × (i < n) }
-    ensures { Kept (KnownLawful n symbol.now arg0.now arg1.now labels.now masks.old marks.now) (Masks masks.old) (Masks masks.new) }
+fn strike_crowd<'a>(known: &mut Known, terms: Terms<'a>, i: usize) -> bool
+    requires { i < terms.n }
+    ensures { Struck (KnownLawful terms.entry known.old) known.old known.new }
 {
-    let f = symbol[i];
-    let g = gather(masks, labels, marks, symbol, n, f);
-    let k = g.count;
+    let f = terms.symbol[i];
+    let crowd = gather(known, terms, f);
+    let chosen = crowd.as_slice();
+    let k = chosen.len();
     if k < 2 {
         return false;
     }
-    let chosen = g.chosen;
-    if pairs(masks, labels, symbol, arg0, arg1, n, &chosen, k, LEVELS) < k {
-        return strike(masks, i, NO_CODE_LEFT);
+    if pairs(known, terms, chosen, LEVELS) < k {
+        return known.strike(i, NO_CODE_LEFT);
     }
     false
 }
 
 // R6 of the symbol of a term, if it has two arguments and has not been met.
 fn meet_symbol<'a>(
-    masks: &mut [u16; MOST_TERMS],
-    met: &mut [u8; BYTE_VALUES],
-    labels: &'a [u8; MOST_TERMS],
-    marks: &'a [u64; MARK_HALVES],
-    symbol: &'a [u8; MOST_TERMS],
-    arg0: &'a [u8; MOST_TERMS],
-    arg1: &'a [u8; MOST_TERMS],
-    n: usize,
+    known: &mut Known,
+    met: &mut [bool; BYTE_VALUES],
+    terms: Terms<'a>,
     i: usize,
 ) -> bool
-    requires { (n ≤ most_terms) × (i < n) }
-    ensures { Kept (KnownLawful n symbol.now arg0.now arg1.now labels.now masks.old marks.now) (Masks masks.old) (Masks masks.new) }
+    requires { i < terms.n }
+    ensures { Struck (KnownLawful terms.entry known.old) known.old known.new }
 {
-    if arg1[i] == MISSING {
+    if terms.arg1[i] == MISSING {
         return false;
     }
-    let f = wide(symbol[i]);
-    if met[f] == 1 {
+    let f = wide(terms.symbol[i]);
+    if met[f] {
         return false;
     }
-    met[f] = 1;
-    strike_crowd(masks, labels, marks, symbol, arg0, arg1, n, i)
+    met[f] = true;
+    strike_crowd(known, terms, i)
 }

@@ -1,5 +1,5 @@
 -- Where a byte stands: the part of a list that is left to search, a place further.
-use Rattle.std.proofs.Common.{ℕ, suc, ◌+◌, ◌<◌, ◌≤◌, ◌≡◌, ◌≢◌, cond, eqb, refl, ap, ◌∙◌, take, length, get_or, drop, arith, drop-cons, add-one, List, [], ◌∷◌}
+use Rattle.std.proofs.Common.{ℕ, suc, ◌+◌, ◌<◌, ◌≤◌, ◌≡◌, cond, ap, ◌∙◌, take, length, get_or, drop, arith, drop-cons, add-one, List, [], ◌∷◌}
 use Rattle.std.proofs.lemmas.List.{get_or-take, length-take-le}
 use Rattle.std.proofs.lemmas.Bool.{eq-eqb, ne_eqb}
 use Rattle.std.proofs.Math.ListN.{drop_of_length-le}

@@ -5,3 +5,4 @@ pub mod Collect
 pub mod Rows
 pub mod Pasted
 pub mod Bytes
+pub mod Causes

@@ -3,3 +3,4 @@ pub mod Lists
 pub mod Limits
 pub mod Pasted
 pub mod Bytes
+pub mod Causes

@@ -2,6 +2,8 @@
 // searched, and the tests and lists of numbers that definitions are made of, with their laws (specs/, proofs/).
 #![tactic(auto)]
 
+pub mod refusal; // why a call is turned down
+
 ghost use Rattle.std.specs.Prelude.{◌≡◌, ℕ, ◌<◌, ◌≤◌, ◌+◌, ◌++◌, min, length, drop};
 ghost use Rattle.prelude.specs.Lists.{at};
 ghost use Rattle.prelude.specs.Limits.{most_terms};
@@ -37,23 +39,25 @@ pub const GREATEST_TOTAL: u8 = MOST_TOTAL as u8;
 pub const BYTE_VALUES: usize = 256;
 
 // Stands for a parameter or an argument that is not there; no sort, symbol or term has this number.
+// Kept: a number and not an Option, here and below: `packed`, `view` and `Extends`, definitions under many theorems, have such numbers in columns of bytes.
 pub const MISSING: u8 = 255;
 
 // Stands for a code that is not decided; no sort has so many codes.
 pub const UNDECIDED: u8 = 255;
 
 // A byte as a number.
+// Kept: a function, as are the two below, since each has wrong programs of its own; this one also says that a byte is below 256, as the library does not.
 pub fn wide(x: u8) -> usize
     ensures { (result ≡ x) × (result < 256) }
 {
-    x as usize
+    usize::from(x)
 }
 
 // The lesser of two numbers.
 pub fn lesser(a: usize, b: usize) -> usize
     ensures { result ≡ min a b }
 {
-    if a < b { a } else { b }
+    a.min(b)
 }
 
 // Each number at its own place of an array, whatever it held.
@@ -61,10 +65,8 @@ pub fn own_numbers(array: [u8; MOST_TERMS]) -> [u8; MOST_TERMS]
     ensures { (k : ℕ) → k < most_terms → at result k ≡ k }
 {
     let mut numbers = array;
-    let mut k: usize = 0;
-    while k < MOST_TERMS {
+    for k in 0..MOST_TERMS {
         numbers[k] = k as u8;
-        k += 1;
     }
     numbers
 }
@@ -84,12 +86,10 @@ pub fn find_byte(s: &[u8], from: usize, to: usize, b: u8) -> usize
     requires { (from ≤ to) × (to ≤ length s.now) }
     ensures { (result ≡ from + index_of b (slice from to s.now)) × (from ≤ result) × (result ≤ to) }
 {
-    let mut i = from;
-    while i < to {
+    for i in from..to {
         if s[i] == b {
             return i;
         }
-        i += 1;
     }
     to
 }

@@ -3,223 +3,170 @@
 #![tactic(auto)]
 
 ghost use Rattle.std.specs.Prelude.{◌≤◌, ◌<◌};
-ghost use Rattle.prelude.specs.Limits.{most_terms};
 ghost use Rattle.prelude.specs.Lists.{at};
 ghost use Rattle.knowledge.specs.Knows.{Knows, Kept};
 ghost use Rattle.rules.specs.Reasons.{Lawful};
 ghost use Rattle.layout.specs.Packed.{view};
 ghost use Rattle.propagate.specs.Propagated.{Begun, FitMask, Knowing, Propagated};
+ghost use Rattle.propagate.specs.Parts.{Allowed};
 
-use knowledge::{HALF_BITS, MARK_HALVES, label};
+use knowledge::{HALF_BITS, Known, MARK_HALVES, Terms};
 use layout::Parsed;
 use pigeonhole::strike_crowds;
-use prelude::{BYTE_VALUES, MOST_LITERALS, MOST_SORTS, MOST_TERMS, wide};
+use prelude::{BYTE_VALUES, MOST_LITERALS, MOST_SORTS, MOST_TERMS, lesser, own_numbers, wide};
 use rules::{join_congruent, join_singles, mark_arguments, strike_marked};
-use starting::{conflict, join_same, mark_differ, spread, start_masks};
+use starting::{Literals, conflict, join_same, mark_differ, spread, start_masks};
 
 // The most rounds of the rules.
 const ROUNDS: usize = 512;
 
 // What a round says of the next: it finds nothing, or it may find more, groups having been joined or not.
-const NOTHING: usize = 0;
-
-const MORE: usize = 1;
-
-const JOINED: usize = 2;
-
-// What is known of some assignments of codes to terms.
-#[derive(Clone, Copy)]
-pub struct Known {
-    // the group of each term, named by one of its terms
-    pub labels: [u8; MOST_TERMS],
-    // the codes that each term cannot have: bit v for code v
-    pub masks: [u16; MOST_TERMS],
-    // the pairs of terms with different codes
-    pub marks: [u64; MARK_HALVES],
+enum Next {
+    Nothing,
+    More,
+    Joined,
 }
 
-// What propagation found out: whether no consistent codes keep to the decided ones, and what is known of those that do; group and degree
-// only guide the search.
+// What propagation found out where no conflict showed: what is known of the consistent codes that keep to the decided ones, and how much
+// each term's group is tied to others, which only guides the search.
 #[derive(Clone, Copy)]
 pub struct Propagation {
-    pub dead: bool,
-    // the group in which that showed
-    pub group: u8,
-    pub labels: [u8; MOST_TERMS],
-    pub masks: [u16; MOST_TERMS],
-    pub marks: [u64; MARK_HALVES],
-    // how much each term's group is tied to others
+    pub known: Known,
     pub degree: [u16; MOST_TERMS],
+}
+
+// A conflict: no consistent codes keep to the decided ones. The group in which that showed only guides the search.
+#[derive(Clone, Copy)]
+pub struct Conflict {
+    pub group: u8,
 }
 
 // What the literals say, which is known of all consistent codes.
 pub fn begin(p: Parsed) -> Known
-    ensures { Begun (view p) result.labels result.masks result.marks }
+    ensures { Begun (view p) result }
 {
-    let m = clamped(p.literals, MOST_LITERALS);
-    let mut labels = prelude::own_numbers([0u8; MOST_TERMS]);
-    let mut masks = [0u16; MOST_TERMS];
-    let mut marks = [0u64; MARK_HALVES];
-    join_same(
-        &mut labels,
-        &mut masks,
-        &mut marks,
-        &p.equal,
-        &p.left,
-        &p.right,
-        m,
-    );
-    mark_differ(&mut marks, &labels, &p.equal, &p.left, &p.right, m);
-    Known {
-        labels,
-        masks,
-        marks,
-    }
+    let mut known = Known {
+        labels: own_numbers([0u8; MOST_TERMS]),
+        masks: [0u16; MOST_TERMS],
+        marks: [0u64; MARK_HALVES],
+    };
+    let literals = Literals {
+        equal: &p.equal,
+        left: &p.left,
+        right: &p.right,
+        m: lesser(p.literals, MOST_LITERALS),
+    };
+    join_same(&mut known, literals);
+    mark_differ(&mut known, literals);
+    known
 }
 
 // What holds of every consistent extension of the decided codes at these sizes, from what is known of them already.
-pub fn propagate<'a>(
+pub fn propagate(
     p: Parsed,
     sizes: [u8; MOST_SORTS],
     decided: [u8; BYTE_VALUES],
-    labels: &'a [u8; MOST_TERMS],
-    masks: &'a [u16; MOST_TERMS],
-    marks: &'a [u64; MARK_HALVES],
-) -> Propagation
+    before: &Known,
+) -> Result<Propagation, Conflict>
     requires fit_mask { FitMask (view p) (at sizes) }
-    requires knowing { Knowing (view p) (at sizes) (at decided) labels.now masks.now marks.now }
-    ensures { Propagated (view p) (at sizes) (at decided) result.dead result.labels result.masks result.marks }
+    requires knowing { Knowing (view p) (at sizes) (at decided) before.now }
+    ensures { Propagated (view p) (at sizes) (at decided) result }
 {
-    let n = clamped(p.terms, MOST_TERMS);
-    let mut l = *labels;
-    let mut w = *masks;
-    let mut k = *marks;
-    start_masks(&mut w, &l, &p.sort, &sizes, &decided, n);
-    rounds(
-        &mut l, &mut w, &mut k, &p.symbol, &p.arg0, &p.arg1, &p.sort, n,
-    );
-    let g = conflict(&w, &k, n);
-    let struck = spread(&l, &w);
-    let used = uses(&l, &p.arg0, &p.arg1, n);
-    let degree = degrees(&l, &k, used);
-    Propagation {
-        dead: g < MOST_TERMS,
-        group: (g % BYTE_VALUES) as u8,
-        labels: l,
-        masks: struck,
-        marks: k,
-        degree,
+    let terms = Terms {
+        symbol: &p.symbol,
+        arg0: &p.arg0,
+        arg1: &p.arg1,
+        sort: &p.sort,
+        n: lesser(p.terms, MOST_TERMS),
+    };
+    let mut known = *before;
+    follow(&mut known, terms, &sizes, &decided);
+    if let Some(g) = conflict(&known, terms.n) {
+        return Err(Conflict { group: g as u8 });
     }
+    known.masks = spread(&known);
+    let degree = degrees(&known, uses(&known, terms));
+    Ok(Propagation { known, degree })
 }
 
-// How many terms or literals to go through: no more than there can be.
-fn clamped(n: usize, most: usize) -> usize
-    ensures { (result ≤ n) × (result ≤ most) }
+// What the sizes and the decided codes say, and what follows by the rules.
+fn follow<'a>(
+    known: &mut Known,
+    terms: Terms<'a>,
+    sizes: &'a [u8; MOST_SORTS],
+    decided: &'a [u8; BYTE_VALUES],
+)
+    ensures { Kept (Allowed terms.entry sizes.now decided.now) (Knows known.old) (Knows known.new) }
 {
-    if n < most { n } else { most }
+    start_masks(known, terms, sizes, decided);
+    rounds(known, terms);
+}
+
+// All rules once. R3 has nothing to do where no groups were joined since it last went through.
+fn round<'a>(
+    known: &mut Known,
+    fresh: &mut [bool; MOST_TERMS],
+    terms: Terms<'a>,
+    joined: bool,
+) -> Next
+    ensures { Kept (Lawful terms.entry) (Knows known.old) (Knows known.new) }
+{
+    let mut joins = join_moved(known, fresh, terms, joined);
+    joins = join_singles(known, terms) | joins;
+    if strike_marked(known, terms) | joins {
+        return said(conflict(known, terms.n).is_none(), joins);
+    }
+    if mark_arguments(known, terms, fresh) {
+        return Next::More;
+    }
+    strike_crowds(known, terms);
+    Next::Nothing
+}
+
+// What a round that found something says: there is no more to find where a conflict shows.
+fn said(open: bool, joins: bool) -> Next {
+    if !open {
+        return Next::Nothing;
+    }
+    if joins { Next::Joined } else { Next::More }
 }
 
 // R3, which has nothing to do where no groups were joined since it last went through.
 fn join_moved<'a>(
-    labels: &mut [u8; MOST_TERMS],
-    masks: &mut [u16; MOST_TERMS],
-    marks: &mut [u64; MARK_HALVES],
-    fresh: &mut [u8; MOST_TERMS],
-    symbol: &'a [u8; MOST_TERMS],
-    arg0: &'a [u8; MOST_TERMS],
-    arg1: &'a [u8; MOST_TERMS],
-    n: usize,
+    known: &mut Known,
+    fresh: &mut [bool; MOST_TERMS],
+    terms: Terms<'a>,
     joined: bool,
 ) -> bool
-    requires { n ≤ most_terms }
-    ensures { Kept (Lawful n symbol.now arg0.now arg1.now) (Knows labels.old masks.old marks.old) (Knows labels.new masks.new marks.new) }
+    ensures { Kept (Lawful terms.entry) (Knows known.old) (Knows known.new) }
 {
-    if joined {
-        return join_congruent(labels, masks, marks, fresh, symbol, arg0, arg1, n);
-    }
-    false
-}
-
-fn said(open: bool, joins: bool) -> usize {
-    if !open {
-        return NOTHING;
-    }
-    if joins { JOINED } else { MORE }
-}
-
-// All rules once.
-fn round<'a>(
-    labels: &mut [u8; MOST_TERMS],
-    masks: &mut [u16; MOST_TERMS],
-    marks: &mut [u64; MARK_HALVES],
-    fresh: &mut [u8; MOST_TERMS],
-    symbol: &'a [u8; MOST_TERMS],
-    arg0: &'a [u8; MOST_TERMS],
-    arg1: &'a [u8; MOST_TERMS],
-    sort: &'a [u8; MOST_TERMS],
-    n: usize,
-    joined: bool,
-) -> usize
-    requires { n ≤ most_terms }
-    ensures { Kept (Lawful n symbol.now arg0.now arg1.now) (Knows labels.old masks.old marks.old) (Knows labels.new masks.new marks.new) }
-{
-    let mut joins = join_moved(labels, masks, marks, fresh, symbol, arg0, arg1, n, joined);
-    joins = join_singles(labels, masks, marks, sort, n) | joins;
-    if strike_marked(masks, labels, marks, n) | joins {
-        return said(conflict(masks, marks, n) == MOST_TERMS, joins);
-    }
-    if mark_arguments(marks, labels, masks, symbol, arg0, arg1, fresh, n) {
-        return MORE;
-    }
-    strike_crowds(masks, labels, marks, symbol, arg0, arg1, n);
-    NOTHING
+    joined && join_congruent(known, fresh, terms)
 }
 
 // The rules until they find nothing new.
-fn rounds<'a>(
-    labels: &mut [u8; MOST_TERMS],
-    masks: &mut [u16; MOST_TERMS],
-    marks: &mut [u64; MARK_HALVES],
-    symbol: &'a [u8; MOST_TERMS],
-    arg0: &'a [u8; MOST_TERMS],
-    arg1: &'a [u8; MOST_TERMS],
-    sort: &'a [u8; MOST_TERMS],
-    n: usize,
-)
-    requires { n ≤ most_terms }
-    ensures { Kept (Lawful n symbol.now arg0.now arg1.now) (Knows labels.old masks.old marks.old) (Knows labels.new masks.new marks.new) }
+fn rounds<'a>(known: &mut Known, terms: Terms<'a>)
+    ensures { Kept (Lawful terms.entry) (Knows known.old) (Knows known.new) }
 {
-    let mut fresh = [0u8; MOST_TERMS];
-    let mut news = JOINED;
-    let mut done: usize = 0;
-    while news != NOTHING && done < ROUNDS {
-        news = round(
-            labels,
-            masks,
-            marks,
-            &mut fresh,
-            symbol,
-            arg0,
-            arg1,
-            sort,
-            n,
-            news == JOINED,
-        );
-        done += 1;
+    let mut fresh = [false; MOST_TERMS];
+    let mut joined = true;
+    for done in 0..ROUNDS {
+        match round(known, &mut fresh, terms, joined) {
+            Next::Nothing => return,
+            Next::More => joined = false,
+            Next::Joined => joined = true,
+        }
     }
 }
 
 // The terms that are their own label, as a row of marks: one half of it.
-fn live(labels: &[u8; MOST_TERMS], half: usize) -> u64
+fn live(known: &Known, half: usize) -> u64
     requires { half < 2 }
 {
     let mut row: u64 = 0;
-    let mut k: usize = 0;
-    while k < HALF_BITS {
-        if wide(labels[half * HALF_BITS + k]) == half * HALF_BITS + k {
-            row = row | (1u64 << k);
+    for k in 0..HALF_BITS {
+        if wide(known.labels[half * HALF_BITS + k]) == half * HALF_BITS + k {
+            row |= 1u64 << k;
         }
-        k += 1;
     }
     row
 }
@@ -228,52 +175,36 @@ fn live(labels: &[u8; MOST_TERMS], half: usize) -> u64
 fn ones(w: u64) -> usize
     ensures { result ≤ 64 }
 {
-    u64::count_ones(w) as usize
+    w.count_ones() as usize
 }
 
 // Counts one more of a group.
-fn count_one(counts: &mut [u8; MOST_TERMS], g: usize) {
-    if g < MOST_TERMS {
-        if counts[g] < 255 {
-            counts[g] = counts[g] + 1;
-        }
+fn count_one(counts: &mut [u8; MOST_TERMS], g: u8) {
+    let k = wide(g);
+    if k < MOST_TERMS {
+        counts[k] = counts[k].saturating_add(1);
     }
 }
 
 // How often each group is an argument of a term.
-fn uses<'a>(
-    labels: &'a [u8; MOST_TERMS],
-    arg0: &'a [u8; MOST_TERMS],
-    arg1: &'a [u8; MOST_TERMS],
-    n: usize,
-) -> [u8; MOST_TERMS]
-    requires { n ≤ most_terms }
-{
+fn uses<'a>(known: &'a Known, terms: Terms<'a>) -> [u8; MOST_TERMS] {
     let mut counts = [0u8; MOST_TERMS];
-    let mut i: usize = 0;
-    while i < n {
-        count_one(&mut counts, wide(label(labels, arg0[i])));
-        count_one(&mut counts, wide(label(labels, arg1[i])));
-        i += 1;
+    for i in 0..terms.n {
+        count_one(&mut counts, known.label(terms.arg0[i]));
+        count_one(&mut counts, known.label(terms.arg1[i]));
     }
     counts
 }
 
 // How much each term's group is tied to others: how often it is an argument, and four times how many groups it is marked against.
-fn degrees<'a>(
-    labels: &'a [u8; MOST_TERMS],
-    marks: &'a [u64; MARK_HALVES],
-    used: [u8; MOST_TERMS],
-) -> [u16; MOST_TERMS] {
-    let low = live(labels, 0);
-    let high = live(labels, 1);
+fn degrees(known: &Known, used: [u8; MOST_TERMS]) -> [u16; MOST_TERMS] {
+    let low = live(known, 0);
+    let high = live(known, 1);
     let mut out = [0u16; MOST_TERMS];
-    let mut i: usize = 0;
-    while i < MOST_TERMS {
-        let row = wide(labels[i]) % MOST_TERMS;
-        let apart = ones(marks[2 * row] & low) + ones(marks[2 * row + 1] & high);
+    for i in 0..MOST_TERMS {
+        let row = wide(known.labels[i]) % MOST_TERMS;
+        let apart = ones(known.marks[2 * row] & low) + ones(known.marks[2 * row + 1] & high);
         out[i] = (4 * apart + wide(used[row])) as u16;
-        i += 1;
     }
     out
 }

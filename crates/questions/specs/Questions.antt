@@ -1,8 +1,8 @@
 -- Interface. What ask prints for a line that asks read, judge, forced, group or table of a name (docs/FORMAT.md, "Asking line by line").
-use Rattle.std.specs.Prelude.{ℕ, cond, List}
+use Rattle.std.specs.Prelude.{ℕ, List, Ok, Err}
 use Rattle.text.specs.Ascii.{ascii}
 use Rattle.words.specs.Words.{word_at, bytes_of, number_of}
-use Rattle.words.specs.Complaints.{is_wrong, complaint_of}
+use Rattle.words.specs.Complaints.{Complaining, complaint_of}
 use Rattle.layout.specs.Layout.{reading}
 use Rattle.sheet.specs.Verdict.{verdict}
 use Rattle.judge.specs.Judge.{Stretch, judgement, table_of}
@@ -25,8 +25,12 @@ abbrev pub number_at : List ℕ → ℕ → ℕ
 number_at line k = number_of (word_at line k)
 
 -- a line whose words behind the verb are of these kinds, `b` for bytes, `n` for a number and `l` for a limit, has this answer; any other a complaint
+abbrev pub complaint_or : Complaining → List ℕ → List ℕ
+complaint_or (Ok x) answer = answer
+complaint_or (Err wrong) answer = complaint_line wrong
+
 abbrev pub unless_wrong : List ℕ → List ℕ → List ℕ → List ℕ
-unless_wrong kinds line answer = cond (is_wrong (complaint_of kinds line)) (complaint_line (complaint_of kinds line)) answer
+unless_wrong kinds line answer = complaint_or (complaint_of kinds line) answer
 
 -- read SHEET
 unfoldable pub read_reply : List ℕ → List ℕ

@@ -10,7 +10,7 @@ ghost use Rattle.questions.specs.Questions.{answer_room, read_reply, judge_reply
 use lines::{
     complaint_line, forcing_line, grouping_line, judgement_line, stretch_line, verdict_line,
 };
-use words::{decode, is_wrong, number, word, wrong_with};
+use words::{decode, number, word, wrong_with};
 
 // The most bytes that the words of a line can stand for.
 pub const MOST_DECODED: usize = 131072;
@@ -18,13 +18,16 @@ pub const MOST_DECODED: usize = 131072;
 // Room for every answer line: the longest is that of walk, which shows two digits for each event.
 pub const ANSWER_ROOM: usize = 264192;
 
+// Kept: the most characters of a line and the room of its buffer stand in each question's contract, here and in the crates above, and in no type:
+// docs/CONTRACTS.md names these functions, so that callers may go on to lend them any slices. The test of the words stands in each too: a function
+// that takes the rest as a closure would be no plainer than its three lines.
+
 // read SHEET
 pub fn read_question(line: &[u8], out: &mut [u8]) -> usize
     requires { (length line.now ≤ 262144) × (answer_room ≤ length out.old) }
     ensures { Wrote out.old 0 (read_reply line.now) out.new result }
 {
-    let wrong = wrong_with(line, b"b");
-    if is_wrong(wrong) {
+    if let Err(wrong) = wrong_with(line, b"b") {
         return complaint_line(out, wrong);
     }
     let mut sheet = [0u8; MOST_DECODED];
@@ -37,8 +40,7 @@ pub fn judge_question(line: &[u8], out: &mut [u8]) -> usize
     requires { (length line.now ≤ 262144) × (answer_room ≤ length out.old) }
     ensures { Wrote out.old 0 (judge_reply line.now) out.new result }
 {
-    let wrong = wrong_with(line, b"bb");
-    if is_wrong(wrong) {
+    if let Err(wrong) = wrong_with(line, b"bb") {
         return complaint_line(out, wrong);
     }
     let mut sheet = [0u8; MOST_DECODED];
@@ -53,8 +55,7 @@ pub fn forced_question(line: &[u8], out: &mut [u8]) -> usize
     requires { (length line.now ≤ 262144) × (answer_room ≤ length out.old) }
     ensures { Wrote out.old 0 (forced_reply line.now) out.new result }
 {
-    let wrong = wrong_with(line, b"bnn");
-    if is_wrong(wrong) {
+    if let Err(wrong) = wrong_with(line, b"bnn") {
         return complaint_line(out, wrong);
     }
     let mut sheet = [0u8; MOST_DECODED];
@@ -69,8 +70,7 @@ pub fn group_question(line: &[u8], out: &mut [u8]) -> usize
     requires { (length line.now ≤ 262144) × (answer_room ≤ length out.old) }
     ensures { Wrote out.old 0 (group_reply line.now) out.new result }
 {
-    let wrong = wrong_with(line, b"bn");
-    if is_wrong(wrong) {
+    if let Err(wrong) = wrong_with(line, b"bn") {
         return complaint_line(out, wrong);
     }
     let mut sheet = [0u8; MOST_DECODED];
@@ -84,8 +84,7 @@ pub fn table_question(line: &[u8], out: &mut [u8]) -> usize
     requires { (length line.now ≤ 262144) × (answer_room ≤ length out.old) }
     ensures { Wrote out.old 0 (table_reply line.now) out.new result }
 {
-    let wrong = wrong_with(line, b"bbn");
-    if is_wrong(wrong) {
+    if let Err(wrong) = wrong_with(line, b"bbn") {
         return complaint_line(out, wrong);
     }
     let mut sheet = [0u8; MOST_DECODED];

@@ -1,5 +1,6 @@
 -- In the longest sheet every term is alone in its group, as a structure in which term i has the code i shows. So 127 is a group's number: labels of
 -- fewer than seven bits are not enough.
+use Rattle.std.specs.Prelude.{Ok}
 use Prim.Native.Nat.{ℕ, ◌<◌, ◌+◌, min}
 use native.Mathlib.Omega.{arith}
 use mathlib.Core.Path.{◌≡◌, refl, ap, sym, ◌∙◌, subst}
@@ -16,7 +17,6 @@ use Rattle.longest_sheet.specs.LongestSheet.{longest_sheet}
 use Rattle.longest_sheet.proofs.Longest.{longest_read}
 use Rattle.congruence.specs.Forced.{Representative}
 use Rattle.group.specs.Grouping.{grouping}
-use Rattle.group.specs.declared.Grouping.TheVariants.{Group}
 use Rattle.group.proofs.Replies.{answer_exactly}
 
 pub longest_bytes : List ℕ
@@ -57,6 +57,6 @@ last_lowest =
     }
 
 -- THEOREM: 127 is the number of a group
-pub last_alone : grouping longest_bytes 127 ≡ Group 127
+pub last_alone : grouping longest_bytes 127 ≡ Ok 127
 unfolding longest_bytes longest_sheet
 last_alone = (answer_exactly (encode longest_sheet) longest_sheet longest_read 127 (lit< tt) 127).1 last_lowest

@@ -1,5 +1,8 @@
 -- None of the wrong programs of specs/WrongPrograms.antt meets its contract. A worked sheet refutes most of them: what the contract says of it is not
 -- what the wrong program does. An 11 before looking, an invented sum and what is wrong in some cell are refuted at every call, by demand 3.
+use Rattle.std.specs.Prelude.{Result, Ok, Err}
+use Rattle.prelude.specs.Causes.{refusal}
+use Rattle.prelude.specs.declared.refusal.Refusal.{Refusal}
 use Prim.Native.Nat.{ℕ, ◌≤◌, ◌<◌}
 use native.Mathlib.Decide.{dec_lt}
 use native.Mathlib.Omega.{arith}
@@ -18,8 +21,8 @@ use Rattle.prelude.specs.Lists.{at, sum_to, fronted}
 use Rattle.prelude.proofs.Lists.{sum_to_same}
 use Rattle.layout.specs.Layout.{Reading, accepted, refused, reading, read_from, cause}
 use Rattle.sheet.specs.Verdict.{verdict}
-use Rattle.sheet.specs.declared.Verdict.TheVariants as verdicts
-use Rattle.layout.proofs.Answers.{accepted_well_formed, refused_not}
+use Rattle.sheet.proofs.Refusals.{same_number, in_sheet}
+use Rattle.layout.proofs.Answers.{accepted_well_formed, refused_not, refused_number}
 use Rattle.tables.specs.Layout.{extent}
 use Rattle.tables.specs.Tests.{well_laid, in_bounds}
 use Rattle.tables.specs.declared.Judgement.{Judgement}
@@ -27,7 +30,6 @@ use Rattle.tables.specs.declared.Judgement.TheVariants.{Fits, OutOfBounds}
 use Rattle.tables.proofs.Laid.{well_laid_test}
 use Rattle.judge.specs.Judge.{judged, judgement}
 use Rattle.forced.proofs.Fixed.{no_fixed_reply}
-use Rattle.group.specs.declared.Grouping.TheVariants.{Group}
 use Rattle.group.proofs.Replies.{answer_exactly, number_named, number_small}
 use Rattle.group.proofs.NoPart.{answered_alike}
 use Rattle.group.proofs.Worked as group-worked
@@ -39,8 +41,6 @@ use Rattle.answer.proofs.Rules.{answers_only, cell_of_term}
 use Rattle.find_at.specs.Promise.{codes_written, tables_written}
 use Rattle.finder.specs.Promise.{Delivered}
 use Rattle.worked.specs.Worked.{Row, row1, row2, row5, row13, Shows}
-use Rattle.find_at.specs.declared.Finding.{Finding}
-use Rattle.find_at.specs.declared.Finding.TheVariants.{Found, Refused}
 use Rattle.worked.proofs.Worked.{sheet_of, worked}
 use Rattle.worked.proofs.EmptySheet.{empty_sheet}
 use Rattle.finder.proofs.Outcomes.{outcome_refused, outcome_short}
@@ -82,8 +82,8 @@ two_fields_read = refl
 differ : {n : ℕ} → 0 < n → n ≡ 0 → ⊥
 differ h e = omega arith
 
-found_not_refused : {n m i : ℕ} → Found n ≡ Refused m i → ⊥
-found_not_refused e = let z : ◌≡◌ {A = ℕ} 0 1 = cc in omega arith
+found_not_refused : {n : ℕ} {r : Refusal} → Ok n ≡ Err r → ⊥
+found_not_refused e = cc
 
 -- ---- find
 module _ (p : FindProgram) (meets : MeetsFind p) where
@@ -98,13 +98,13 @@ module _ (p : FindProgram) (meets : MeetsFind p) where
     tables_of : p.tables r.sheet blank blank ≡ fronted r.tables blank
     tables_of = (meets r.sheet blank blank).tables ∙ (k.shown blank blank codes_fit tables_fit).tables
 
-  one_found : p.result row1.sheet blank blank ≡ Found 1
+  one_found : p.result row1.sheet blank blank ≡ Ok 1
   one_found = result_of_lem row1 one_field (lit≤ tt) (lit≤ tt)
 
-  two_found : p.result row5.sheet blank blank ≡ Found 2
+  two_found : p.result row5.sheet blank blank ≡ Ok 2
   two_found = result_of_lem row5 two_codes (lit≤ tt) (lit≤ tt)
 
-  four_found : p.result row13.sheet blank blank ≡ Found 4
+  four_found : p.result row13.sheet blank blank ≡ Ok 4
   four_found = result_of_lem row13 two_fields (lit≤ tt) (lit≤ tt)
 
   not_eleven_for_all : ElevenForAll p → ⊥
@@ -145,14 +145,14 @@ module _ (p : FindProgram) (meets : MeetsFind p) where
       ∙ wrong row13.sheet blank blank (sheet_of row13) 4 two_fields_read four_found 3 (lit< tt) (lit≤ tt))
 
   module _ (s cs ts : List ℕ) where
-    abbrev gives : Finding
+    abbrev gives : Result ℕ Refusal
     gives = p.result s cs ts
 
-    turned_down_lem : (n i : ℕ) → outcome s (length cs) (length ts) ≡ turned_down n i → gives ≡ Refused n i
+    turned_down_lem : (n i : ℕ) → outcome s (length cs) (length ts) ≡ turned_down n i → gives ≡ Err (refusal n i)
     turned_down_lem n i q = (meets s cs ts).result ∙ (exit s cs ts (turned_down n i) q).result
 
     -- the buffers suffice where the answer is not 10
-    room : (sh : Sheet) → reading s ≡ accepted sh → (gives ≡ Refused 10 0 → ⊥) → (length sh.terms ≤ length cs) × (extent sh (ceilings sh) ≤ length ts)
+    room : (sh : Sheet) → reading s ≡ accepted sh → (gives ≡ Err (refusal 10 0) → ⊥) → (length sh.terms ≤ length cs) × (extent sh (ceilings sh) ≤ length ts)
     room sh reads enough =
         elim (dec_lt (length cs) (length sh.terms)) [
           | yes h ↦ absurd (enough (turned_down_lem 10 0 (outcome_short s sh (length cs) (length ts) reads (inl h))))
@@ -164,20 +164,20 @@ module _ (p : FindProgram) (meets : MeetsFind p) where
         ]
 
     -- 11 is answered only where no candidate satisfies every statement
-    pub eleven_hopeless : gives ≡ Refused 11 0 → (k : LetThrough s cs ts) × Hopeless k.sheet
+    pub eleven_hopeless : gives ≡ Err (refusal 11 0) → (k : LetThrough s cs ts) × Hopeless k.sheet
     eleven_hopeless e = go (reading s) refl
       where
         go : (R : Reading) → reading s ≡ R → (k : LetThrough s cs ts) × Hopeless k.sheet
         go (refused n i) q =
-            let r : Refused n i ≡ Refused 11 0 = sym (turned_down_lem n i (outcome_refused s n i (length cs) (length ts) q)) ∙ e in
-            let same : n ≡ 11 = cc in
+            let r : ◌≡◌ {A = Result ℕ Refusal} (Err (refusal n i)) (Err (refusal 11 0)) = sym (turned_down_lem n i (outcome_refused s n i (length cs) (length ts) q)) ∙ e in
+            let same : n ≡ 11 = sym (in_sheet n (refused_number s n i q)) ∙ same_number (refusal n i) (refusal 11 0) r in
             absurd (refused_not s n i 11 q (inr (omega arith)) same)
         go (accepted sh) q =
-            let r = room sh q (λ d. let z : ◌≡◌ {A = ℕ} 10 11 = cc in omega arith) in
+            let r = room sh q (λ d. let z : 10 ≡ 11 = same_number {A = ℕ} (refusal 10 0) (refusal 11 0) (sym d ∙ e) in omega arith) in
             (record { sheet = sh; reads = q; codes_fit = r.0; tables_fit = r.1 }, (accepted_promised s cs ts sh q r.0 r.1).refuses.0 (sym (meets s cs ts).result ∙ e))
 
     -- what is found is delivered
-    pub delivered : (sh : Sheet) (n : ℕ) → reading s ≡ accepted sh → gives ≡ Found n → Delivered sh n (codes_written sh (p.codes s cs ts)) (tables_written sh (p.tables s cs ts))
+    pub delivered : (sh : Sheet) (n : ℕ) → reading s ≡ accepted sh → gives ≡ Ok n → Delivered sh n (codes_written sh (p.codes s cs ts)) (tables_written sh (p.tables s cs ts))
     delivered sh n reads found =
         let r = room sh reads (λ d. found_not_refused (sym found ∙ d)) in
         rw ((meets s cs ts).codes, (meets s cs ts).tables)
@@ -267,27 +267,27 @@ module _ (p : FindProgram) (meets : MeetsFind p) where
       let s = wrong.0 in
       let cs = wrong.1 in
       let ts = wrong.2 in
-      let r : Refused 16 wrong.3 ≡ Found wrong.5 =
+      let r : Err (refusal 16 wrong.3) ≡ Ok wrong.5 =
       sym (exit s cs ts (turned_down 16 wrong.3) (outcome_refused s 16 wrong.3 (length cs) (length ts) wrong.4)).result ∙ sym (meets s cs ts).result ∙ wrong.6 in
       let z : ◌≡◌ {A = ℕ} 0 1 = cc in
       omega arith
 
 -- ---- read
-row1_accepted : verdict (reading row1.sheet) ≡ verdicts.Accepted
+row1_accepted : verdict (reading row1.sheet) ≡ Ok tt
 unfolding verdict reading read_from cause
 row1_accepted = refl
 
 not_refuses_every_sheet : (p : ReadProgram) → MeetsRead p → RefusesEverySheet p → ⊥
 not_refuses_every_sheet p meets wrong =
     let r = wrong row1.sheet in
-    let e : verdicts.Accepted ≡ verdicts.Refused r.0 r.1 = sym row1_accepted ∙ sym (meets row1.sheet) ∙ r.2 in
+    let e : Ok tt ≡ Err (refusal r.0 r.1) = sym row1_accepted ∙ sym (meets row1.sheet) ∙ r.2 in
     let z : ◌≡◌ {A = ℕ} 0 1 = cc in
     omega arith
 
 not_refuses_no_bytes : (p : ReadProgram) → MeetsRead p → RefusesNoBytes p → ⊥
 unfolding verdict
 not_refuses_no_bytes p meets wrong =
-    let e : verdicts.Accepted ≡ verdicts.Refused wrong.0 wrong.1 = sym (ap verdict empty_sheet.reads) ∙ sym (meets []) ∙ wrong.2 in
+    let e : Ok tt ≡ Err (refusal wrong.0 wrong.1) = sym (ap verdict empty_sheet.reads) ∙ sym (meets []) ∙ wrong.2 in
     let z : ◌≡◌ {A = ℕ} 0 1 = cc in
     omega arith
 
@@ -295,25 +295,24 @@ not_sixteen_before_seven : (p : ReadProgram) → MeetsRead p → SixteenBeforeSe
 unfolding verdict
 not_sixteen_before_seven p meets wrong =
     let s = wrong.0 in
-    let e : verdicts.Refused 7 wrong.1 ≡ verdicts.Refused 16 wrong.3 = sym (ap verdict wrong.2) ∙ sym (meets s) ∙ wrong.4 in
-    let z : ◌≡◌ {A = ℕ} 7 16 = cc in
+    let z : ◌≡◌ {A = ℕ} 7 16 = same_number {A = Unit {0}} (refusal 7 wrong.1) (refusal 16 wrong.3) (sym (ap verdict wrong.2) ∙ sym (meets s) ∙ wrong.4) in
     omega arith
 
 -- ---- judge
 -- tables of one field that has one code, and two: the first fit, the second are out of bounds
-row1_fits : judgement row1.sheet (1 ∷ []) ≡ Fits
+row1_fits : judgement row1.sheet (1 ∷ []) ≡ Ok Fits
 unfolding judgement judged well_laid in_bounds reading read_from cause
 row1_fits = refl
 
-row1_out : judgement row1.sheet (2 ∷ []) ≡ OutOfBounds
+row1_out : judgement row1.sheet (2 ∷ []) ≡ Ok OutOfBounds
 unfolding judgement judged well_laid in_bounds reading read_from cause
 row1_out = refl
 
-not_fixed_judgement : (p : JudgeProgram) (r : Judgement) → MeetsJudge p → FixedJudgement p r → ⊥
+not_fixed_judgement : (p : JudgeProgram) (r : Result Judgement Refusal) → MeetsJudge p → FixedJudgement p r → ⊥
 unfolding well_laid reading read_from cause
 not_fixed_judgement p r meets wrong =
-    let fits : Fits ≡ r = sym row1_fits ∙ sym (meets row1.sheet (1 ∷ [])) ∙ wrong row1.sheet (1 ∷ []) (sheet_of row1) refl ((well_laid_test (sheet_of row1) (1 ∷ [])).0 refl) in
-    let out : OutOfBounds ≡ r = sym row1_out ∙ sym (meets row1.sheet (2 ∷ [])) ∙ wrong row1.sheet (2 ∷ []) (sheet_of row1) refl ((well_laid_test (sheet_of row1) (2 ∷ [])).0 refl) in
+    let fits : Ok Fits ≡ r = sym row1_fits ∙ sym (meets row1.sheet (1 ∷ [])) ∙ wrong row1.sheet (1 ∷ []) (sheet_of row1) refl ((well_laid_test (sheet_of row1) (1 ∷ [])).0 refl) in
+    let out : Ok OutOfBounds ≡ r = sym row1_out ∙ sym (meets row1.sheet (2 ∷ [])) ∙ wrong row1.sheet (2 ∷ []) (sheet_of row1) refl ((well_laid_test (sheet_of row1) (2 ∷ [])).0 refl) in
     let z : ◌≡◌ {A = ℕ} 0 1 = cc in
     omega arith
 
@@ -326,7 +325,7 @@ not_gives_itself : (p : GroupProgram) → MeetsGroup p → GivesItself p → ⊥
 not_gives_itself p meets wrong =
     let lower = (group-worked.answers_twice).2 in
     let n = number_named group-worked.twice 2 0 lower in
-    let e : Group 2 ≡ Group 0 = sym (wrong group-worked.twice n.sheet 2 n.reads n.there) ∙ meets group-worked.twice 2 ∙ lower in
+    let e : ◌≡◌ {A = Result ℕ Refusal} (Ok 2) (Ok 0) = sym (wrong group-worked.twice n.sheet 2 n.reads n.there) ∙ meets group-worked.twice 2 ∙ lower in
     let z : ◌≡◌ {A = ℕ} 2 0 = cc in
     omega arith
 
@@ -344,7 +343,7 @@ not_one_round p meets wrong =
     let lower = group-worked.answers_repeatedly in
     let n = number_named group-worked.repeatedly 1 0 lower in
     let e = sym (wrong group-worked.repeatedly n.sheet 1 n.reads n.there) ∙ meets group-worked.repeatedly 1 ∙ lower in
-    let one : Group 1 ≡ Group 0 = sym (ap Group (group-worked.one_round n.sheet n.reads)) ∙ e in
+    let one : ◌≡◌ {A = Result ℕ Refusal} (Ok 1) (Ok 0) = sym (ap Ok (group-worked.one_round n.sheet n.reads)) ∙ e in
     let z : ◌≡◌ {A = ℕ} 1 0 = cc in
     omega arith
 

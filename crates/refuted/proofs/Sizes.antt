@@ -1,5 +1,9 @@
 -- The wrong programs of request (h) are refuted: what a call that sizes, or that finds at given sizes, has written (`FirstSizes`, `DeliveredAt`), with which
 -- numbers a call is turned down, and a worked sheet that has an answer at one size and none at another.
+use Rattle.std.specs.Prelude.{Result, Ok, Err}
+use Rattle.prelude.specs.Causes.{number_of, refusal}
+use Rattle.prelude.specs.declared.refusal.Refusal.{Refusal}
+use Rattle.sheet.proofs.Refusals.{same_number}
 use Prim.Native.Nat.{ℕ}
 use native.Mathlib.Decide.{dec_lt}
 use native.Mathlib.Omega.{arith}
@@ -18,15 +22,13 @@ use Rattle.answer.specs.Answer.{answer_at, solves, sum}
 use Rattle.answer.specs.Demand.{CandidateSizes}
 use Rattle.sizes.specs.Sizing.{sizing, sizes_after}
 use Rattle.sizes.specs.Promise.{FirstSizes, sizes_written}
-use Rattle.sizes.specs.declared.Sizing.TheVariants as sized
 use Rattle.sizes.proofs.Outcomes as sizes
 use Rattle.sizes.proofs.Least.{accepted_promised}
-use Rattle.find_at.specs.Found.{turned_down, ceilings, short}
+use Rattle.find_at.specs.Found.{finds, turned_down, ceilings, short}
 use Rattle.find_at.specs.FindAt.{outcome_at, finding_at, codes_after_at, tables_after_at}
 use Rattle.find_at.specs.Promise.{DeliveredAt, codes_written, tables_written}
-use Rattle.find_at.specs.declared.Finding.TheVariants.{Found, Refused}
 use Rattle.find_at.proofs.Sizes.{candidate_sizes_test}
-use Rattle.find_at.proofs.Numbers.{Case, unread, too_short, wrong_sizes_lem, looked, case_of, numbers, found_through}
+use Rattle.find_at.proofs.Numbers.{Case, unread, too_short, wrong_sizes_lem, looked, case_of, found_through}
 use Rattle.find_at.proofs.Outcomes.{long_enough}
 use Rattle.find_at.proofs.Delivery.{accepted_promised_at}
 use Rattle.worked.specs.Worked.{row5}
@@ -38,7 +40,7 @@ module _ (p : SizesProgram) (meets : MeetsSizes p) where
   not_gives_ceilings c =
       elim (dec_lt (length c.out) (length c.sheet.bounds)) [
         | yes h ↦
-            let r : sized.Refused 10 0 ≡ sized.Sized c.given = sym (sizes.exit c.bytes c.out _ (sizes.outcome_short c.bytes c.sheet (length c.out) c.reads h)).result ∙ gives in
+            let r : ◌≡◌ {A = Result ℕ Refusal} (Err (refusal 10 0)) (Ok c.given) = sym (sizes.exit c.bytes c.out _ (sizes.outcome_short c.bytes c.sheet (length c.out) c.reads h)).result ∙ gives in
             let y : ◌≡◌ {A = ℕ} 0 1 = cc in omega arith
         | no h ↦
             let f : FirstSizes c.sheet c.given (sizes_written c.sheet (sizes_after c.bytes c.out)) = (accepted_promised c.bytes c.out c.sheet c.reads (omega arith)).delivers c.given gives in
@@ -46,7 +48,7 @@ module _ (p : SizesProgram) (meets : MeetsSizes p) where
             omega (arith, f.sum ∙ ap sum wrote, f.least c.smaller c.candidate c.satisfies, c.less)
       ]
     where
-      gives : sizing c.bytes (length c.out) ≡ sized.Sized c.given
+      gives : sizing c.bytes (length c.out) ≡ Ok c.given
       gives = sym (meets c.bytes c.out).result ∙ c.sized
 
 -- two names that differ: no answer at size 1, one at size 2
@@ -61,29 +63,30 @@ two_through : LetThroughAt row5.sheet (2 ∷ []) blank blank
 unfolding reading read_from cause in_bounds
 two_through = record { sheet = sheet_of row5; reads = refl; codes_fit = lit≤ tt; tables_fit = lit≤ tt; right = (candidate_sizes_test (sheet_of row5) (2 ∷ [])).0 refl }
 
-none_at_one : finding_at row5.sheet (1 ∷ []) 6 6 ≡ Refused 11 0
+none_at_one : finding_at row5.sheet (1 ∷ []) 6 6 ≡ Err (refusal 11 0)
 unfolding finding_at outcome_at answer_at solves in_bounds reading read_from cause
 none_at_one = refl
 
-found_at_two : finding_at row5.sheet (2 ∷ []) 6 6 ≡ Found 2
+found_at_two : finding_at row5.sheet (2 ∷ []) 6 6 ≡ Ok 2
 unfolding finding_at outcome_at answer_at solves in_bounds reading read_from cause
 found_at_two = refl
 
 module _ (p : FindAtProgram) (meets : MeetsFindAt p) where
   not_ignores_sizes : IgnoresSizes p → ⊥
   not_ignores_sizes wrong =
-      let r : Refused 11 0 ≡ Found 2 =
+      let r : ◌≡◌ {A = Result ℕ Refusal} (Err (refusal 11 0)) (Ok 2) =
       sym none_at_one ∙ sym (meets row5.sheet (1 ∷ []) blank blank).result ∙ wrong row5.sheet (1 ∷ []) (2 ∷ []) blank blank one_through two_through ∙ (meets row5.sheet (2 ∷ []) blank blank).result ∙ found_at_two in
       let y : ◌≡◌ {A = ℕ} 0 1 = cc in omega arith
 
   not_eleven_out_of_bounds : ElevenOutOfBounds p → ⊥
+  unfolding finding_at
   not_eleven_out_of_bounds c = by (case_of c.bytes c.sizes (length c.codes) (length c.tables))
     where
-      gives : finding_at c.bytes c.sizes (length c.codes) (length c.tables) ≡ Refused 11 0
+      gives : finding_at c.bytes c.sizes (length c.codes) (length c.tables) ≡ Err (refusal 11 0)
       gives = sym (meets c.bytes c.sizes c.codes c.tables).result ∙ c.eleven
 
-      eleven : (m j : ℕ) → outcome_at c.bytes c.sizes (length c.codes) (length c.tables) ≡ turned_down m j → 11 ≡ m
-      eleven m j o = (numbers c.bytes c.sizes (length c.codes) (length c.tables) 11 0 gives m j o).0
+      eleven : (m j : ℕ) → outcome_at c.bytes c.sizes (length c.codes) (length c.tables) ≡ turned_down m j → 11 ≡ number_of (refusal m j).cause
+      eleven m j o = same_number {A = ℕ} (refusal 11 0) (refusal m j) (sym gives ∙ ap finds o)
 
       by : Case c.bytes c.sizes (length c.codes) (length c.tables) → ⊥
       by (unread m j q o) = let both : refused m j ≡ accepted c.sheet = sym q ∙ c.reads in let y : ◌≡◌ {A = ℕ} 0 1 = cc in omega arith
@@ -108,7 +111,7 @@ module _ (p : FindAtProgram) (meets : MeetsFindAt p) where
       after : List ℕ
       after = tables_after_at c.bytes c.sizes c.codes c.tables
 
-      gives : finding_at c.bytes c.sizes (length c.codes) (length c.tables) ≡ Found c.sum
+      gives : finding_at c.bytes c.sizes (length c.codes) (length c.tables) ≡ Ok c.sum
       gives = sym (meets c.bytes c.sizes c.codes c.tables).result ∙ c.found
 
       through : (short c.sheet (length c.codes) (length c.tables) ≡ false) × CandidateSizes c.sheet c.sizes

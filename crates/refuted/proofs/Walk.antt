@@ -1,4 +1,5 @@
 -- The wrong programs of request (e) are refuted: what a call that writes has written (`Walked`), that only allowed calls write, and with which numbers a call is turned down.
+use Rattle.prelude.specs.Causes.{refusal}
 use Prim.Native.Nat.{ℕ, ◌+◌, ◌<◌}
 use native.Mathlib.Nat.{add-zero}
 use native.Mathlib.Omega.{arith}
@@ -49,7 +50,7 @@ module _ (p : WalkProgram) (meets : MeetsWalk p) where
 
   not_answers_thirteen : AnswersThirteen p → ⊥
   not_answers_thirteen wrong =
-      elim (refusal_number_lem _ _ _ _ _ _ _ 13 wrong.1 (sym (meets wrong.0).0 ∙ wrong.2)) [
+      elim (refusal_number_lem _ _ _ _ _ _ _ (refusal 13 wrong.1) (sym (meets wrong.0).0 ∙ wrong.2)) [
         | inl l ↦ elim l [ inl x ↦ omega (arith, x.1) | inr e ↦ omega arith ]
         | inr l ↦ elim l.0 [ inl e ↦ omega arith | inr r ↦ elim r [ inl e ↦ omega arith | inr e ↦ omega arith ] ]
       ]

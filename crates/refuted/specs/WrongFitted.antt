@@ -1,5 +1,7 @@
 -- The interface: the wrong programs of request (d), about fitted. A program is what it gives back, and leaves in the buffer, for every call; to meet the contract is to do so at every call.
 -- `refuted_fitted` of proofs/Fitted.antt: none of these meets it. Each is said of a single call, and of bytes that need not be a sheet.
+use Rattle.std.specs.Prelude.{Result, Ok}
+use Rattle.prelude.specs.declared.refusal.Refusal.{Refusal}
 use Rattle.std.specs.Prelude.{ℕ, ◌<◌, ◌≡◌, true, List, length, take}
 use Rattle.std.proofs.Math.Option.{some}
 use Rattle.logic.specs.Sheet.{Sheet, Literal, bound_at, symbol_at, term_at, literal_at}
@@ -9,12 +11,10 @@ use Rattle.answer.specs.Answer.{Entry, answer, structure_of}
 use Rattle.fitted_sheet.specs.FittedSheet.{code_term, code_args, cell_term, differ, same, too_many}
 use Rattle.fitted_sheet.specs.Kept.{fitted_to}
 use Rattle.fitted.specs.Filing.{Files}
-use Rattle.fitted.specs.declared.Fitting.{Fitting}
-use Rattle.fitted.specs.declared.Fitting.TheVariants.{Written}
 
 -- the result, and the buffer at exit, from the sheet's bytes and the buffer at entry
 pub record FittedProgram : Type 0 where
-  pub result : List ℕ → List ℕ → Fitting
+  pub result : List ℕ → List ℕ → Result ℕ Refusal
   pub buffer : List ℕ → List ℕ → List ℕ
 
 -- the contract of fitted::fitted: its two clauses are the fields of `Files`
@@ -26,7 +26,7 @@ pub record WritingCall (p : FittedProgram) : Type 0 where
   pub bytes : List ℕ
   pub out : List ℕ
   pub many : ℕ
-  pub wrote : p.result bytes out ≡ Written many
+  pub wrote : p.result bytes out ≡ Ok many
   pub old : Sheet
   pub reads : reading bytes ≡ accepted old
   pub entry : Entry

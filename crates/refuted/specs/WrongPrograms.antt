@@ -1,6 +1,9 @@
 -- The interface: the wrong programs of docs/CONTRACTS.md, "Contracts owed", c, in that order, and those of the requests: about a sheet of zero bytes, about
 -- group, about the cells that no expression reaches, and about fills. A program is what it gives back, and leaves in the buffers, for every call; to meet a
 -- contract is to do so at every call. `refuted` of proofs/Refuted.antt: none of these meets the contract of its question.
+use Rattle.std.specs.Prelude.{Result, Ok, Err, Bool}
+use Rattle.prelude.specs.Causes.{refusal}
+use Rattle.prelude.specs.declared.refusal.Refusal.{Refusal}
 use Rattle.std.specs.Prelude.{ℕ, ◌≤◌, ◌<◌, ◌≡◌, true, ◌⊎◌, List, [], ◌∷◌, map, length}
 use Rattle.std.proofs.Math.Option.{some}
 use Rattle.logic.specs.Sheet.{Sheet, Symbol, symbol_at, term_at, fill_at, sort_at}
@@ -8,31 +11,24 @@ use Rattle.logic.specs.Structure.{Structure, InSorts, code}
 use Rattle.prelude.specs.Lists.{at, sum_to}
 use Rattle.layout.specs.Layout.{accepted, refused, reading}
 use Rattle.sheet.specs.Verdict.{verdict}
-use Rattle.sheet.specs.declared.Verdict.{Verdict}
-use Rattle.sheet.specs.declared.Verdict.TheVariants as verdicts
 use Rattle.tables.specs.Layout.{extent, decoded, WellLaid}
 use Rattle.tables.specs.declared.Judgement.{Judgement}
 use Rattle.tables.specs.declared.Judgement.TheVariants.{Fits}
 use Rattle.judge.specs.Judge.{judgement}
 use Rattle.forced.specs.Forcing.{comparable, forcing}
-use Rattle.forced.specs.declared.Forcing.{Forcing}
 use Rattle.congruence.specs.Closure.{stated, round}
 use Rattle.congruence.specs.Forced.{Forced, SameStatements}
 use Rattle.group.specs.Grouping.{grouping}
-use Rattle.group.specs.declared.Grouping.{Grouping}
-use Rattle.group.specs.declared.Grouping.TheVariants.{Group}
 use Rattle.find_at.specs.Found.{ceilings}
 use Rattle.finder.specs.Find.{Finds}
 use Rattle.find_at.specs.Promise.{tables_written}
 use Rattle.answer.specs.Answer.{Entry, answer}
 use Rattle.answer.specs.Demand.{Hopeless, Unreached, ToItself, Unfilled}
-use Rattle.find_at.specs.declared.Finding.{Finding}
-use Rattle.find_at.specs.declared.Finding.TheVariants.{Found, Refused}
 
 -- ---- FIND (demand 3)
 -- the result, and the code and the table buffer at exit, from the sheet's bytes and both buffers at entry
 pub record FindProgram : Type 0 where
-  pub result : List ℕ → List ℕ → List ℕ → Finding
+  pub result : List ℕ → List ℕ → List ℕ → Result ℕ Refusal
   pub codes : List ℕ → List ℕ → List ℕ → List ℕ
   pub tables : List ℕ → List ℕ → List ℕ → List ℕ
 
@@ -49,7 +45,7 @@ pub record LetThrough (s cs ts : List ℕ) : Type 0 where
 
 -- answers 11 for all sheets, once they are accepted and the buffers suffice
 abbrev pub ElevenForAll : FindProgram → Type 0
-ElevenForAll p = (s cs ts : List ℕ) → LetThrough s cs ts → p.result s cs ts ≡ Refused 11 0
+ElevenForAll p = (s cs ts : List ℕ) → LetThrough s cs ts → p.result s cs ts ≡ Err (refusal 11 0)
 
 -- answers before looking: once the bytes are read and the buffers measured, every sheet gets the same answer
 abbrev pub NeverLooks : FindProgram → Type 0
@@ -60,27 +56,27 @@ pub record ElevenBeforeLooking (p : FindProgram) : Type 0 where
   pub sheet : List ℕ
   pub codes : List ℕ
   pub tables : List ℕ
-  pub eleven : p.result sheet codes tables ≡ Refused 11 0
+  pub eleven : p.result sheet codes tables ≡ Err (refusal 11 0)
   pub unlooked : (k : LetThrough sheet codes tables) → Hopeless k.sheet → ⊥
 
 -- hands out the same tables each time: what the table buffer holds does not depend on the sheet
 pub record SameTables (p : FindProgram) : Type 0 where
   pub after : List ℕ → List ℕ
-  pub same : (s cs ts : List ℕ) (n : ℕ) → p.result s cs ts ≡ Found n → p.tables s cs ts ≡ after ts
+  pub same : (s cs ts : List ℕ) (n : ℕ) → p.result s cs ts ≡ Ok n → p.tables s cs ts ≡ after ts
 
 -- says found and writes no byte of the codes, or none of the tables
 abbrev pub NoCodeWritten : FindProgram → Type 0
-NoCodeWritten p = (s cs ts : List ℕ) (n : ℕ) → p.result s cs ts ≡ Found n → p.codes s cs ts ≡ cs
+NoCodeWritten p = (s cs ts : List ℕ) (n : ℕ) → p.result s cs ts ≡ Ok n → p.codes s cs ts ≡ cs
 
 abbrev pub NoTableWritten : FindProgram → Type 0
-NoTableWritten p = (s cs ts : List ℕ) (n : ℕ) → p.result s cs ts ≡ Found n → p.tables s cs ts ≡ ts
+NoTableWritten p = (s cs ts : List ℕ) (n : ℕ) → p.result s cs ts ≡ Ok n → p.tables s cs ts ≡ ts
 
 -- settles the first field and writes 0 for the rest: for the sizes of the other fields, or for the codes of their expressions
 abbrev pub OtherSizesZero : FindProgram → Type 0
-OtherSizesZero p = (s cs ts : List ℕ) (sh : Sheet) (n : ℕ) → reading s ≡ accepted sh → p.result s cs ts ≡ Found n → (t : ℕ) → 1 ≤ t → t < length sh.bounds → at (p.tables s cs ts) t ≡ 0
+OtherSizesZero p = (s cs ts : List ℕ) (sh : Sheet) (n : ℕ) → reading s ≡ accepted sh → p.result s cs ts ≡ Ok n → (t : ℕ) → 1 ≤ t → t < length sh.bounds → at (p.tables s cs ts) t ≡ 0
 
 abbrev pub OtherCodesZero : FindProgram → Type 0
-OtherCodesZero p = (s cs ts : List ℕ) (sh : Sheet) (n : ℕ) → reading s ≡ accepted sh → p.result s cs ts ≡ Found n → (i : ℕ) → i < length sh.terms → 1 ≤ sort_at sh i → at (p.codes s cs ts) i ≡ 0
+OtherCodesZero p = (s cs ts : List ℕ) (sh : Sheet) (n : ℕ) → reading s ≡ accepted sh → p.result s cs ts ≡ Ok n → (i : ℕ) → i < length sh.terms → 1 ≤ sort_at sh i → at (p.codes s cs ts) i ≡ 0
 
 -- a call to which something is found: the sheet's bytes and both buffers, the sheet read and the sum
 pub record FoundCall (p : FindProgram) : Type 0 where
@@ -90,7 +86,7 @@ pub record FoundCall (p : FindProgram) : Type 0 where
   pub read : Sheet
   pub reads : reading sheet ≡ accepted read
   pub sum : ℕ
-  pub found : p.result sheet codes tables ≡ Found sum
+  pub found : p.result sheet codes tables ≡ Ok sum
 
 -- reports an invented sum to some call: one that is not that of the sizes written
 abbrev pub InventedSum : FindProgram → Type 0
@@ -163,72 +159,72 @@ FillsWithNumber p = (c : FilledCell p) × (ToItself c.cell.call.read c.cell.symb
 
 -- takes a second fill of one name, and so the last of two or the first: something is found on some sheet that is refused with 16
 abbrev pub TakesSecondFill : FindProgram → Type 0
-TakesSecondFill p = (s : List ℕ) × (cs : List ℕ) × (ts : List ℕ) × (i : ℕ) × (reading s ≡ refused 16 i) × (n : ℕ) × (p.result s cs ts ≡ Found n)
+TakesSecondFill p = (s : List ℕ) × (cs : List ℕ) × (ts : List ℕ) × (i : ℕ) × (reading s ≡ refused 16 i) × (n : ℕ) × (p.result s cs ts ≡ Ok n)
 
 -- ---- READ (demand 2)
 abbrev pub ReadProgram : Type 0
-ReadProgram = List ℕ → Verdict
+ReadProgram = List ℕ → Result (Unit {0}) Refusal
 
 abbrev pub MeetsRead : ReadProgram → Type 0
 MeetsRead p = (s : List ℕ) → p s ≡ verdict (reading s)
 
 -- refuses every sheet, with whatever number and place
 abbrev pub RefusesEverySheet : ReadProgram → Type 0
-RefusesEverySheet p = (s : List ℕ) → (n : ℕ) × (i : ℕ) × (p s ≡ verdicts.Refused n i)
+RefusesEverySheet p = (s : List ℕ) → (n : ℕ) × (i : ℕ) × (p s ≡ Err (refusal n i))
 
 -- refuses a sheet of zero bytes, with 1, with 9 or with whatever number and place
 abbrev pub RefusesNoBytes : ReadProgram → Type 0
-RefusesNoBytes p = (n : ℕ) × (i : ℕ) × (p [] ≡ verdicts.Refused n i)
+RefusesNoBytes p = (n : ℕ) × (i : ℕ) × (p [] ≡ Err (refusal n i))
 
 -- ---- READ (request (g))
 -- answers 16 where the first faulty record has cause 7
 abbrev pub SixteenBeforeSeven : ReadProgram → Type 0
-SixteenBeforeSeven p = (s : List ℕ) × (i : ℕ) × (reading s ≡ refused 7 i) × (j : ℕ) × (p s ≡ verdicts.Refused 16 j)
+SixteenBeforeSeven p = (s : List ℕ) × (i : ℕ) × (reading s ≡ refused 7 i) × (j : ℕ) × (p s ≡ Err (refusal 16 j))
 
 -- ---- JUDGE (demand 2)
 abbrev pub JudgeProgram : Type 0
-JudgeProgram = List ℕ → List ℕ → Judgement
+JudgeProgram = List ℕ → List ℕ → Result Judgement Refusal
 
 abbrev pub MeetsJudge : JudgeProgram → Type 0
 MeetsJudge p = (s t : List ℕ) → p s t ≡ judgement s t
 
 -- one fixed reply, even if only to calls that are not turned down: accepted sheets with well-laid tables
-abbrev pub FixedJudgement : JudgeProgram → Judgement → Type 0
+abbrev pub FixedJudgement : JudgeProgram → Result Judgement Refusal → Type 0
 FixedJudgement p r = (s t : List ℕ) (sh : Sheet) → reading s ≡ accepted sh → WellLaid sh t → p s t ≡ r
 
 -- passes some tables other than those of zero bytes for a sheet of zero bytes
 abbrev pub PassesTablesForNoBytes : JudgeProgram → Type 0
-PassesTablesForNoBytes p = (t : List ℕ) × (t ≡ [] → ⊥) × (p [] t ≡ Fits)
+PassesTablesForNoBytes p = (t : List ℕ) × (t ≡ [] → ⊥) × (p [] t ≡ Ok Fits)
 
 -- ---- FORCED (demand 2)
 abbrev pub ForcedProgram : Type 0
-ForcedProgram = List ℕ → ℕ → ℕ → Forcing
+ForcedProgram = List ℕ → ℕ → ℕ → Result Bool Refusal
 
 abbrev pub MeetsForced : ForcedProgram → Type 0
 MeetsForced p = (s : List ℕ) (a b : ℕ) → p s a b ≡ forcing s a b
 
 -- one fixed reply, even if only to calls that are not turned down: expressions of an accepted sheet that lie in one field
-abbrev pub FixedForcing : ForcedProgram → Forcing → Type 0
+abbrev pub FixedForcing : ForcedProgram → Result Bool Refusal → Type 0
 FixedForcing p r = (s : List ℕ) (a b : ℕ) (sh : Sheet) → reading s ≡ accepted sh → comparable sh a b ≡ true → p s a b ≡ r
 
 -- ---- GROUP (request (b))
 abbrev pub GroupProgram : Type 0
-GroupProgram = List ℕ → ℕ → Grouping
+GroupProgram = List ℕ → ℕ → Result ℕ Refusal
 
 abbrev pub MeetsGroup : GroupProgram → Type 0
 MeetsGroup p = (s : List ℕ) (e : ℕ) → p s e ≡ grouping s e
 
 -- gives, for each expression of an accepted sheet, the expression itself
 abbrev pub GivesItself : GroupProgram → Type 0
-GivesItself p = (s : List ℕ) (sh : Sheet) (e : ℕ) → reading s ≡ accepted sh → e < length sh.terms → p s e ≡ Group e
+GivesItself p = (s : List ℕ) (sh : Sheet) (e : ℕ) → reading s ≡ accepted sh → e < length sh.terms → p s e ≡ Ok e
 
 -- .. a number above which none of the expressions lies that are forced together with it, as the highest-numbered of them is
 abbrev pub GivesHighest : GroupProgram → Type 0
-GivesHighest p = (s : List ℕ) (sh : Sheet) (e k : ℕ) → reading s ≡ accepted sh → e < length sh.terms → p s e ≡ Group k → (j : ℕ) → j < length sh.terms → Forced sh j e → j ≤ k
+GivesHighest p = (s : List ℕ) (sh : Sheet) (e k : ℕ) → reading s ≡ accepted sh → e < length sh.terms → p s e ≡ Ok k → (j : ℕ) → j < length sh.terms → Forced sh j e → j ≤ k
 
 -- .. its label after one round of the congruence rule
 abbrev pub OneRound : GroupProgram → Type 0
-OneRound p = (s : List ℕ) (sh : Sheet) (e : ℕ) → reading s ≡ accepted sh → e < length sh.terms → p s e ≡ Group (at (round sh (stated sh)) e)
+OneRound p = (s : List ℕ) (sh : Sheet) (e : ℕ) → reading s ≡ accepted sh → e < length sh.terms → p s e ≡ Ok (at (round sh (stated sh)) e)
 
 -- counts a differ statement, or a floor, a ceiling or the total: two accepted sheets that differ in no more are answered differently
 pub record CountsDiffer (p : GroupProgram) : Type 0 where
@@ -245,11 +241,11 @@ pub record CountsDiffer (p : GroupProgram) : Type 0 where
 -- ---- GROUP (request (f))
 -- holds its labels in six bits: no number from 64 on is ever given
 abbrev pub SixBits : GroupProgram → Type 0
-SixBits p = (s : List ℕ) (e k : ℕ) → p s e ≡ Group k → k < 64
+SixBits p = (s : List ℕ) (e k : ℕ) → p s e ≡ Ok k → k < 64
 
 -- gives a number of 128 or more, as one does that uses the highest bit of a label for something else
 abbrev pub HighestBit : GroupProgram → Type 0
-HighestBit p = (s : List ℕ) × (e : ℕ) × (k : ℕ) × (p s e ≡ Group k) × (128 ≤ k)
+HighestBit p = (s : List ℕ) × (e : ℕ) × (k : ℕ) × (p s e ≡ Ok k) × (128 ≤ k)
 
 -- ---- ALL OF THEM
 pub record Refuted : Type 0 where
@@ -273,9 +269,9 @@ pub record Refuted : Type 0 where
   pub refuses_every_sheet : (p : ReadProgram) → MeetsRead p → RefusesEverySheet p → ⊥
   pub refuses_no_bytes : (p : ReadProgram) → MeetsRead p → RefusesNoBytes p → ⊥
   pub sixteen_before_seven : (p : ReadProgram) → MeetsRead p → SixteenBeforeSeven p → ⊥
-  pub fixed_judgement : (p : JudgeProgram) (r : Judgement) → MeetsJudge p → FixedJudgement p r → ⊥
+  pub fixed_judgement : (p : JudgeProgram) (r : Result Judgement Refusal) → MeetsJudge p → FixedJudgement p r → ⊥
   pub passes_tables_for_no_bytes : (p : JudgeProgram) → MeetsJudge p → PassesTablesForNoBytes p → ⊥
-  pub fixed_forcing : (p : ForcedProgram) (r : Forcing) → MeetsForced p → FixedForcing p r → ⊥
+  pub fixed_forcing : (p : ForcedProgram) (r : Result Bool Refusal) → MeetsForced p → FixedForcing p r → ⊥
   pub gives_itself : (p : GroupProgram) → MeetsGroup p → GivesItself p → ⊥
   pub gives_highest : (p : GroupProgram) → MeetsGroup p → GivesHighest p → ⊥
   pub one_round : (p : GroupProgram) → MeetsGroup p → OneRound p → ⊥

@@ -1,5 +1,8 @@
 -- The interface: the wrong programs of request (h), about sizes and find_at. A program is what it gives back, and leaves in the buffers, for every call; to
 -- meet a contract is to do so at every call. `refuted_sizes` of proofs/Sizes.antt: none of these meets the contract of its question.
+use Rattle.std.specs.Prelude.{Result, Ok, Err}
+use Rattle.prelude.specs.Causes.{refusal}
+use Rattle.prelude.specs.declared.refusal.Refusal.{Refusal}
 use Rattle.std.specs.Prelude.{ℕ, ◌≤◌, ◌<◌, ◌≡◌, List, length}
 use Rattle.prelude.specs.Lists.{at, firsts}
 use Rattle.logic.specs.Sheet.{Sheet}
@@ -11,17 +14,13 @@ use Rattle.answer.specs.Answer.{sum}
 use Rattle.answer.specs.Demand.{CandidateSizes}
 use Rattle.sizes.specs.Sizing.{Sizes}
 use Rattle.sizes.specs.Promise.{sizes_written}
-use Rattle.sizes.specs.declared.Sizing.{Sizing}
-use Rattle.sizes.specs.declared.Sizing.TheVariants.{Sized}
 use Rattle.find_at.specs.Found.{ceilings}
 use Rattle.find_at.specs.FindAt.{FindsAt}
-use Rattle.find_at.specs.declared.Finding.{Finding}
-use Rattle.find_at.specs.declared.Finding.TheVariants.{Found, Refused}
 
 -- ---- SIZES
 -- the result, and the buffer at exit, from the sheet's bytes and the buffer at entry
 pub record SizesProgram : Type 0 where
-  pub result : List ℕ → List ℕ → Sizing
+  pub result : List ℕ → List ℕ → Result ℕ Refusal
   pub buffer : List ℕ → List ℕ → List ℕ
 
 -- the contract of sizes::sizes: its two clauses are the fields of `Sizes`
@@ -35,7 +34,7 @@ pub record GivesCeilings (p : SizesProgram) : Type 0 where
   pub sheet : Sheet
   pub reads : reading bytes ≡ accepted sheet
   pub given : ℕ
-  pub sized : p.result bytes out ≡ Sized given
+  pub sized : p.result bytes out ≡ Ok given
   pub wrote : sizes_written sheet (p.buffer bytes out) ≡ firsts (length sheet.bounds) (ceilings sheet)
   pub smaller : Structure
   pub candidate : Candidate smaller sheet
@@ -45,7 +44,7 @@ pub record GivesCeilings (p : SizesProgram) : Type 0 where
 -- ---- FIND_AT
 -- the result, and the code and the table buffer at exit, from the sheet's bytes, the sizes and both buffers at entry
 pub record FindAtProgram : Type 0 where
-  pub result : List ℕ → List ℕ → List ℕ → List ℕ → Finding
+  pub result : List ℕ → List ℕ → List ℕ → List ℕ → Result ℕ Refusal
   pub codes : List ℕ → List ℕ → List ℕ → List ℕ → List ℕ
   pub tables : List ℕ → List ℕ → List ℕ → List ℕ → List ℕ
 
@@ -74,7 +73,7 @@ pub record ElevenOutOfBounds (p : FindAtProgram) : Type 0 where
   pub sheet : Sheet
   pub reads : reading bytes ≡ accepted sheet
   pub wrong : CandidateSizes sheet sizes → ⊥
-  pub eleven : p.result bytes sizes codes tables ≡ Refused 11 0
+  pub eleven : p.result bytes sizes codes tables ≡ Err (refusal 11 0)
 
 -- finds at smaller sizes: to some call it says found, and the tables that it wrote begin with a size smaller than the one given
 pub record FindsSmaller (p : FindAtProgram) : Type 0 where
@@ -85,7 +84,7 @@ pub record FindsSmaller (p : FindAtProgram) : Type 0 where
   pub sheet : Sheet
   pub reads : reading bytes ≡ accepted sheet
   pub sum : ℕ
-  pub found : p.result bytes sizes codes tables ≡ Found sum
+  pub found : p.result bytes sizes codes tables ≡ Ok sum
   pub sort : ℕ
   pub there : sort < length sheet.bounds
   pub smaller : at (p.tables bytes sizes codes tables) sort < at sizes sort

@@ -1,5 +1,8 @@
 -- The interface: the wrong programs of request (e), about walk. A program is what it gives back, and leaves in the trail, for every call; to meet the contract is to do so at every call.
 -- `refuted_walk` of proofs/Walk.antt: none of these meets it. Each is said of a single call.
+use Rattle.std.specs.Prelude.{Result, Ok, Err}
+use Rattle.prelude.specs.Causes.{refusal}
+use Rattle.prelude.specs.declared.refusal.Refusal.{Refusal}
 use Rattle.std.specs.Prelude.{ℕ, ◌+◌, ◌<◌, ◌≡◌, List, [], ◌∷◌, length, take}
 use Rattle.prelude.specs.Lists.{at}
 use Rattle.logic.specs.Sheet.{Sheet}
@@ -7,8 +10,6 @@ use Rattle.layout.specs.Layout.{accepted, reading}
 use Rattle.tables.specs.Layout.{decoded}
 use Rattle.walk.specs.Walk.{end, walking, trail_after}
 use Rattle.walk.specs.Promise.{StaysIn}
-use Rattle.walk.specs.declared.Walking.{Walking}
-use Rattle.walk.specs.declared.Walking.TheVariants.{Written, Refused}
 
 -- what walk is called with
 pub record WalkCall : Type 0 where
@@ -22,7 +23,7 @@ pub record WalkCall : Type 0 where
 
 -- the result, and the trail at exit
 pub record WalkProgram : Type 0 where
-  pub result : WalkCall → Walking
+  pub result : WalkCall → Result ℕ Refusal
   pub trail : WalkCall → List ℕ
 
 -- the contract of walk::walk, its two clauses
@@ -36,7 +37,7 @@ MeetsWalk p =
 pub record WritingWalk (p : WalkProgram) : Type 0 where
   pub call : WalkCall
   pub many : ℕ
-  pub wrote : p.result call ≡ Written many
+  pub wrote : p.result call ≡ Ok many
   pub read : Sheet
   pub reads : reading call.sheet ≡ accepted read
 
@@ -77,7 +78,7 @@ WritesUntested p =
 
 -- answers 13
 abbrev pub AnswersThirteen : WalkProgram → Type 0
-AnswersThirteen p = (c : WalkCall) × (i : ℕ) × (p.result c ≡ Refused 13 i)
+AnswersThirteen p = (c : WalkCall) × (i : ℕ) × (p.result c ≡ Err (refusal 13 i))
 
 pub record RefutedWalk : Type 0 where
   pub writes_start_first : (p : WalkProgram) → MeetsWalk p → WritesStartFirst p → ⊥

@@ -47,6 +47,8 @@ fn without_return(line: &[u8]) -> &[u8]
 }
 
 // The answer to a line that has a verb.
+// Kept: no `match` on the verb, here and below: it names the goal of an arm after its word, and the edits `another_verb`, `findat_by_another_word`
+// and `bundle_by_another_word` change that word.
 fn answer_asked(line: &[u8], out: &mut [u8]) -> usize
     requires { (length line.now ≤ 262144) × (answer_room ≤ length out.old) }
     ensures { Wrote out.old 0 (asked line.now) out.new result }

@@ -7,6 +7,9 @@ use mathlib.Core.List.{List}
 use lib.ListN.{length, take, drop}
 use lib.Dec.{eqb}
 use borrow.Author.Tests.{le-ltb, eq-eqb, ne_eqb}
+use Rattle.std.specs.Prelude.{Result, Ok, Err}
+use Rattle.prelude.specs.Causes.{cause_of, tested}
+use Rattle.prelude.specs.declared.refusal.Cause.{Cause}
 use Rattle.logic.specs.Sheet.{Sheet}
 use Rattle.records.specs.Record.{cut, kind_at, length_at, payload_at}
 use Rattle.records.specs.Step.{step_at, behind}
@@ -19,22 +22,33 @@ use Rattle.layout.proofs.Growing.{grown, empty_sofar}
 use Rattle.layout.proofs.Pack.{contents}
 use Rattle.layout.proofs.Records.{fault_whole, fault_none, from_end, from_fault, from_good}
 use Rattle.sheet.specs.Verdict.{parsing}
-use Rattle.sheet.specs.Parts.{Took}
+use Rattle.sheet.specs.Parts.{taken}
 use Rattle.sheet.specs.declared.Taken.{Taken}
 
--- a refused record: only its number is promised
-pub took_refused : (number' next' k : ℕ) (p : List ℕ) (sh : Sheet) (r : Taken) → r.number ≡ number' → (r.number ≡ 0 → ⊥) → Took number' next' k p sh r
-took_refused number' next' k p sh r e h = record { number = e; next = λ z. absurd (h z); sheet = λ z. absurd (h z) }
+-- a record that is taken has no cause, and one that is not has it
+pub taken_ok : (n next k : ℕ) (b : List ℕ) (sh : Sheet) (r : Taken) → Ok r ≡ taken n next k b sh
+    → (n ≡ 0) × (r ≡ record { next = next; sheet = packed (add sh (kind_of k) b) })
+taken_ok zero next k b sh r e = (refl, cc)
+taken_ok (suc n) next k b sh r e = (cc, cc)
 
-pub took_at : (s : List ℕ) (i : ℕ) (sh : Sheet) (r : Taken) (a b d n : ℕ) → i < length s → Whole s i a b d → n ≡ behind i (step_at s i)
-    → Took (cause sh a (take d (drop b s))) n a (take d (drop b s)) sh r
-    → Took (fault_at s i sh) (behind i (step_at s i)) (kind_at s i) (payload_at s i) sh r
+pub taken_err : (n next k : ℕ) (b : List ℕ) (sh : Sheet) (x : Cause) → Err x ≡ taken n next k b sh → (n ≡ 0 → ⊥) × (x ≡ cause_of n)
+taken_err zero next k b sh x e = ((λ z. cc), cc)
+taken_err (suc n) next k b sh x e = ((λ z. omega arith), cc)
+
+-- what a test finds is what the record gives
+pub tested_taken : (n next k : ℕ) (b : List ℕ) (sh : Sheet) (x : Cause) → Err x ≡ tested n → Err x ≡ taken n next k b sh
+tested_taken zero next k b sh x e = cc
+tested_taken (suc n) next k b sh x e = cc
+
+pub took_at : (s : List ℕ) (i : ℕ) (sh : Sheet) (r : Result Taken Cause) (a b d n : ℕ) → i < length s → Whole s i a b d → n ≡ behind i (step_at s i)
+    → r ≡ taken (cause sh a (take d (drop b s))) n a (take d (drop b s)) sh
+    → r ≡ taken (fault_at s i sh) (behind i (step_at s i)) (kind_at s i) (payload_at s i) sh
 took_at s i sh r a b d n h w e t =
-    let u : Took (cause sh (kind_at s i) (payload_at s i)) n (kind_at s i) (payload_at s i) sh r =
-    subst (λ (x : ℕ). Took (cause sh x (payload_at s i)) n x (payload_at s i) sh r) w.kind
-    (subst (λ (x : ℕ). Took (cause sh a (take (length_at s i) (drop x s))) n a (take (length_at s i) (drop x s)) sh r) w.start
-    (subst (λ (x : ℕ). Took (cause sh a (take x (drop b s))) n a (take x (drop b s)) sh r) w.len t)) in
-    record { number = u.number ∙ sym (fault_whole s i sh h w.whole); next = λ z. u.next z ∙ e; sheet = u.sheet }
+    subst (λ (x : ℕ). r ≡ taken (cause sh x (payload_at s i)) n x (payload_at s i) sh) w.kind
+    (subst (λ (x : ℕ). r ≡ taken (cause sh a (take (length_at s i) (drop x s))) n a (take (length_at s i) (drop x s)) sh) w.start
+    (subst (λ (x : ℕ). r ≡ taken (cause sh a (take x (drop b s))) n a (take x (drop b s)) sh) w.len t))
+    ∙ ap (λ (x : ℕ). taken x n (kind_at s i) (payload_at s i) sh) (sym (fault_whole s i sh h w.whole))
+    ∙ ap (λ (x : ℕ). taken (fault_at s i sh) x (kind_at s i) (payload_at s i) sh) e
 
 -- the parser at a position: the sheet so far is known, and what is left of the sheet decides
 pub record Going (s : List ℕ) (i : ℕ) (p : Parsed) : Type 0 where
@@ -57,7 +71,7 @@ module _ (s : List ℕ) (i : ℕ) (p : Parsed) (g : Going s i p) where
   pub going_end : length s ≤ i → ended s g.known.sheet ≡ reading s
   going_end h = sym (from_end g.most s i g.known.sheet h) ∙ g.rest
 
-  module _ (h : i < length s) (r : Taken) (t : Took (fault_at s i g.known.sheet) (behind i (step_at s i)) (kind_at s i) (payload_at s i) g.known.sheet r) where
+  module _ (h : i < length s) where
     left : (m : ℕ) × (g.most ≡ suc m)
     left = go g.most refl
       where
@@ -65,37 +79,45 @@ module _ (s : List ℕ) (i : ℕ) (p : Parsed) (g : Going s i p) where
         go zero e = let z = g.enough in absurd (omega arith)
         go (suc m) e = (m, e)
 
-    pub going_refused : (r.number ≡ 0 → ⊥) → refused r.number i ≡ reading s
-    going_refused bad =
-        ap (λ (n : ℕ). refused n i) t.number
-        ∙ sym (from_fault left.0 s i g.known.sheet h (λ z. bad (t.number ∙ z)))
+    pub going_refused : (x : Cause) → Err x ≡ taken (fault_at s i g.known.sheet) (behind i (step_at s i)) (kind_at s i) (payload_at s i) g.known.sheet
+        → Err (record { cause = x; place = i }) ≡ parsing (reading s)
+    unfolding parsing
+    going_refused x t =
+        let y = taken_err (fault_at s i g.known.sheet) (behind i (step_at s i)) (kind_at s i) (payload_at s i) g.known.sheet x t in
+        ap (λ (c : Cause). Err (record { cause = c; place = i })) y.1
+        ∙ ap parsing
+        (sym (from_fault left.0 s i g.known.sheet h y.0)
         ∙ ap (λ (n : ℕ). read_from n s i g.known.sheet) (sym left.1)
-        ∙ g.rest
+        ∙ g.rest)
 
-    -- a good record is whole, and the parser goes on at its end
-    good : r.number ≡ 0 → (cut s i ≡ false) × (cause g.known.sheet (kind_at s i) (payload_at s i) ≡ 0)
-    good e = fault_none s i g.known.sheet h (sym t.number ∙ e)
+    module _ (r : Taken) (t : Ok r ≡ taken (fault_at s i g.known.sheet) (behind i (step_at s i)) (kind_at s i) (payload_at s i) g.known.sheet) where
+      fine : (fault_at s i g.known.sheet ≡ 0) × (r ≡ record { next = behind i (step_at s i); sheet = packed (add g.known.sheet (kind_of (kind_at s i)) (payload_at s i)) })
+      fine = taken_ok (fault_at s i g.known.sheet) (behind i (step_at s i)) (kind_at s i) (payload_at s i) g.known.sheet r t
 
-    pub going_on : r.number ≡ 0 → r.next ≡ i + 4 + length_at s i
-    going_on e = t.next e ∙ behind_whole s i h (good e).0
+      -- a good record is whole, and the parser goes on at its end
+      good : (cut s i ≡ false) × (cause g.known.sheet (kind_at s i) (payload_at s i) ≡ 0)
+      good = fault_none s i g.known.sheet h fine.0
 
-    pub going_next : r.number ≡ 0 → Going s r.next r.sheet
-    going_next e =
-        record {
-          known =
-              record {
-                sheet = add g.known.sheet (kind_of (kind_at s i)) (payload_at s i);
-                same = t.sheet e;
-                sofar = grown g.known.sheet g.known.sofar (kind_at s i) (payload_at s i) (good e).1;
-              };
-          most = left.0;
-          enough = let z = g.enough in let y = going_on e in let x = left.1 in omega arith;
-          rest =
-              ap (λ (n : ℕ). read_from left.0 s n (add g.known.sheet (kind_of (kind_at s i)) (payload_at s i))) (going_on e)
-              ∙ sym (from_good left.0 s i g.known.sheet h (sym t.number ∙ e))
-              ∙ ap (λ (n : ℕ). read_from n s i g.known.sheet) (sym left.1)
-              ∙ g.rest;
-        }
+      pub going_on : r.next ≡ i + 4 + length_at s i
+      going_on = ap (λ (x : Taken). x.next) fine.1 ∙ behind_whole s i h good.0
+
+      pub going_next : Going s r.next r.sheet
+      going_next =
+          record {
+            known =
+                record {
+                  sheet = add g.known.sheet (kind_of (kind_at s i)) (payload_at s i);
+                  same = ap (λ (x : Taken). x.sheet) fine.1;
+                  sofar = grown g.known.sheet g.known.sofar (kind_at s i) (payload_at s i) good.1;
+                };
+            most = left.0;
+            enough = let z = g.enough in let y = going_on in let x = left.1 in omega arith;
+            rest =
+                ap (λ (n : ℕ). read_from left.0 s n (add g.known.sheet (kind_of (kind_at s i)) (payload_at s i))) going_on
+                ∙ sym (from_good left.0 s i g.known.sheet h fine.0)
+                ∙ ap (λ (n : ℕ). read_from n s i g.known.sheet) (sym left.1)
+                ∙ g.rest;
+          }
 
 -- at the end
 module _ (s : List ℕ) (i : ℕ) (p : Parsed) (g : Going s i p) (h : length s ≤ i) where
@@ -110,13 +132,13 @@ module _ (s : List ℕ) (i : ℕ) (p : Parsed) (g : Going s i p) (h : length s �
   pub going_untotalled : p.total ≡ 0 → (length s ≡ 0 → ⊥) → refused 9 (length s) ≡ reading s
   going_untotalled e some = ending true (rw (eq-eqb p.total 0 e, ne_eqb (length s) 0 some))
 
-  going_whole : (eqb p.total 0 && not (eqb (length s) 0)) ≡ false → record { number = 0; place = 0; sheet = p } ≡ parsing (reading s)
+  going_whole : (eqb p.total 0 && not (eqb (length s) 0)) ≡ false → Ok p ≡ parsing (reading s)
   unfolding parsing
-  going_whole e = ap (λ (x : Parsed). record { number = 0; place = 0; sheet = x }) g.known.same ∙ ap parsing (ending false e)
+  going_whole e = ap (λ (x : Parsed). Ok x) g.known.same ∙ ap parsing (ending false e)
 
-  pub going_accepted : (p.total ≡ 0 → ⊥) → record { number = 0; place = 0; sheet = p } ≡ parsing (reading s)
+  pub going_accepted : (p.total ≡ 0 → ⊥) → Ok p ≡ parsing (reading s)
   going_accepted e = going_whole (rw (ne_eqb p.total 0 e))
 
   -- a sheet of zero bytes
-  pub going_nothing : p.total ≡ 0 → length s ≡ 0 → record { number = 0; place = 0; sheet = p } ≡ parsing (reading s)
+  pub going_nothing : p.total ≡ 0 → length s ≡ 0 → Ok p ≡ parsing (reading s)
   going_nothing e none = going_whole (rw (eq-eqb p.total 0 e, eq-eqb (length s) 0 none))

@@ -1,57 +1,55 @@
--- What the parser hands over says whether the bytes are accepted: number 0 stands for an accepted sheet, since no refusal has it. Hence the
--- answer to "read".
+-- What the parser hands over says whether the bytes are accepted, and what they are refused with.
 use Prim.Native.Nat.{ℕ}
 use mathlib.Core.Path.{◌≡◌, refl, ap, sym, ◌∙◌}
-use mathlib.Core.Logic.{inl}
 use mathlib.Core.List.{List}
+use Rattle.std.specs.Prelude.{Ok, Err}
+use Rattle.prelude.specs.Causes.{refusal}
+use Rattle.prelude.specs.declared.refusal.Refusal.{Refusal}
 use Rattle.logic.specs.Sheet.{Sheet}
-use Rattle.layout.specs.Layout.{Reading, accepted, refused, reading, empty}
+use Rattle.layout.specs.Layout.{Reading, accepted, refused, reading}
 use Rattle.layout.specs.Packed.{packed}
+use Rattle.layout.specs.declared.Parsed.{Parsed}
 use Rattle.sheet.specs.Verdict.{parsing, verdict, ReadFrom}
-use Rattle.sheet.specs.declared.Parsing.{Parsing}
-use Rattle.sheet.specs.declared.Verdict.TheVariants.{Accepted, Refused}
-use Rattle.layout.proofs.Answers.{refused_not}
 
 -- the bytes are accepted, and the parsed sheet stands for the sheet that they say
-pub record Accepts (s : List ℕ) (q : Parsing) : Type 0 where
+pub record Accepts (s : List ℕ) (p : Parsed) : Type 0 where
   pub sheet : Sheet
   pub reads : reading s ≡ accepted sheet
-  pub same : q.sheet ≡ packed sheet
+  pub same : p ≡ packed sheet
 
--- they are refused, and the parsed sheet is empty
-pub record Refuses (s : List ℕ) (q : Parsing) : Type 0 where
-  pub reads : reading s ≡ refused q.number q.place
-  pub same : q.sheet ≡ packed empty
+-- they are refused, with this number and place
+pub record Refuses (s : List ℕ) (r : Refusal) : Type 0 where
+  pub number : ℕ
+  pub place : ℕ
+  pub reads : reading s ≡ refused number place
+  pub same : r ≡ refusal number place
 
-module _ (s : List ℕ) (q : Parsing) (e : q ≡ parsing (reading s)) where
-  pub number_accepted : q.number ≡ 0 → Accepts s q
+module _ (s : List ℕ) (p : Parsed) (e : Ok p ≡ parsing (reading s)) where
+  pub parsed_accepts : Accepts s p
   unfolding parsing
-  number_accepted z = go (reading s) refl
+  parsed_accepts = go (reading s) refl
     where
-      go : (R : Reading) → reading s ≡ R → Accepts s q
-      go (accepted sh) r = record { sheet = sh; reads = r; same = ap (λ (x : Parsing). x.sheet) (e ∙ ap parsing r) }
-      go (refused n i) r = absurd (refused_not s n i 0 r (inl refl) (sym (ap (λ (x : Parsing). x.number) (e ∙ ap parsing r)) ∙ z))
-
-  pub number_refused : (q.number ≡ 0 → ⊥) → Refuses s q
-  unfolding parsing
-  number_refused h = go (reading s) refl
-    where
-      go : (R : Reading) → reading s ≡ R → Refuses s q
-      go (accepted sh) r = absurd (h (ap (λ (x : Parsing). x.number) (e ∙ ap parsing r)))
-      go (refused n i) r =
-          let q-is = e ∙ ap parsing r in
-          record { reads = r ∙ sym (ap (λ (x : Parsing). refused x.number x.place) q-is); same = ap (λ (x : Parsing). x.sheet) q-is }
+      go : (R : Reading) → reading s ≡ R → Accepts s p
+      go (accepted sh) r = let q : Ok p ≡ Ok (packed sh) = e ∙ ap parsing r in record { sheet = sh; reads = r; same = cc }
+      go (refused n i) r = let q : Ok p ≡ Err (refusal n i) = e ∙ ap parsing r in cc
 
   -- a sheet that is not refused was read from the bytes
-  unfoldable pub read_from_lem : q.number ≡ 0 → ReadFrom q.sheet
-  read_from_lem z =
-      let a = number_accepted z in
-      record { bytes = s; sheet = a.sheet; reads = a.reads; same = a.same }
+  unfoldable pub read_from_lem : ReadFrom p
+  read_from_lem = record { bytes = s; sheet = parsed_accepts.sheet; reads = parsed_accepts.reads; same = parsed_accepts.same }
 
-  pub verdict_accepted : q.number ≡ 0 → Accepted ≡ verdict (reading s)
+  pub verdict_accepted : Ok tt ≡ verdict (reading s)
   unfolding verdict
-  verdict_accepted z = sym (ap verdict (number_accepted z).reads)
+  verdict_accepted = sym (ap verdict parsed_accepts.reads)
 
-  pub verdict_refused : (q.number ≡ 0 → ⊥) → Refused q.number q.place ≡ verdict (reading s)
+module _ (s : List ℕ) (r : Refusal) (e : Err r ≡ parsing (reading s)) where
+  pub parsed_refuses : Refuses s r
+  unfolding parsing
+  parsed_refuses = go (reading s) refl
+    where
+      go : (R : Reading) → reading s ≡ R → Refuses s r
+      go (accepted sh) h = let q : Err r ≡ Ok (packed sh) = e ∙ ap parsing h in cc
+      go (refused n i) h = let q : Err r ≡ Err (refusal n i) = e ∙ ap parsing h in record { number = n; place = i; reads = h; same = cc }
+
+  pub verdict_refused : Err r ≡ verdict (reading s)
   unfolding verdict
-  verdict_refused h = sym (ap verdict (number_refused h).reads)
+  verdict_refused = let a = parsed_refuses in ap Err a.same ∙ sym (ap verdict a.reads)

@@ -4,6 +4,8 @@ use native.Mathlib.Omega.{arith}
 use mathlib.Core.Path.{◌≡◌, refl, ap, sym, ◌∙◌}
 use mathlib.Core.Logic.{inl, inr}
 use mathlib.Core.List.{List}
+use Rattle.std.specs.Prelude.{Ok, Err}
+use Rattle.prelude.specs.Causes.{refusal}
 use mathlib.Core.Option.{Option, none, some}
 use lib.ListN.{length, take, drop}
 use Rattle.prelude.proofs.Lists.{length_firsts}
@@ -16,7 +18,6 @@ use Rattle.answer.proofs.Lists.{found_or_none}
 use Rattle.answer.proofs.Demand.{accepted_demand}
 use Rattle.sizes.specs.Sizing.{answering, sizing, sizes_after}
 use Rattle.sizes.specs.Promise.{FirstSizes, sizes_written, Promised}
-use Rattle.sizes.specs.declared.Sizing.TheVariants.{Sized, Refused}
 use Rattle.sizes.proofs.Outcomes.{Exit, exit, outcome_long}
 
 module _ (s out : List ℕ) (sh : Sheet) (reads : reading s ≡ accepted sh) (room : length sh.bounds ≤ length out) where
@@ -28,19 +29,19 @@ module _ (s out : List ℕ) (sh : Sheet) (reads : reading s ≡ accepted sh) (ro
   demanded = accepted_demand s sh reads
 
   -- what was sized is the answer
-  pub sized_is : (n : ℕ) → sizing s (length out) ≡ Sized n → (e : Entry) × (answer sh ≡ some e) × (sum e.sizes ≡ n)
+  pub sized_is : (n : ℕ) → sizing s (length out) ≡ Ok n → (e : Entry) × (answer sh ≡ some e) × (sum e.sizes ≡ n)
   sized_is n f = step (answer sh) refl
     where
       step : (a : Option Entry) → answer sh ≡ a → (e : Entry) × (answer sh ≡ some e) × (sum e.sizes ≡ n)
-      step none q = let r : Refused 11 0 ≡ Sized n = sym (exits none q).result ∙ f in let z : ◌≡◌ {A = ℕ} 0 1 = cc in absurd (omega arith)
-      step (some e) q = (e, q, (let r : Sized (sum e.sizes) ≡ Sized n = sym (exits (some e) q).result ∙ f in cc))
+      step none q = let r : Err (refusal 11 0) ≡ Ok n = sym (exits none q).result ∙ f in cc
+      step (some e) q = (e, q, (let r : Ok (sum e.sizes) ≡ Ok n = sym (exits (some e) q).result ∙ f in cc))
 
-  refused_none : sizing s (length out) ≡ Refused 11 0 → answer sh ≡ none
+  refused_none : sizing s (length out) ≡ Err (refusal 11 0) → answer sh ≡ none
   refused_none f = step (answer sh) refl
     where
       step : (a : Option Entry) → answer sh ≡ a → answer sh ≡ none
       step none q = q
-      step (some e) q = let r : Sized (sum e.sizes) ≡ Refused 11 0 = sym (exits (some e) q).result ∙ f in let z : ◌≡◌ {A = ℕ} 0 1 = cc in absurd (omega arith)
+      step (some e) q = let r : Ok (sum e.sizes) ≡ Err (refusal 11 0) = sym (exits (some e) q).result ∙ f in cc
 
   module _ (e : Entry) (q : answer sh ≡ some e) where
     answers : Answers sh e (structure_of sh e)

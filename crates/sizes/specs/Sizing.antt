@@ -1,11 +1,11 @@
 -- Interface. What "sizes" gives back for every call, and what the buffer holds afterwards (docs/FORMAT.md, "The questions" and "Refusals").
-use Rattle.std.specs.Prelude.{ℕ, ◌≡◌, true, false, List, length, ltb}
+use Rattle.std.specs.Prelude.{ℕ, ◌≡◌, true, false, List, length, ltb, Result, Ok, Err}
 use Rattle.std.proofs.Math.Option.{Option, none, some}
+use Rattle.prelude.specs.Causes.{refusal}
 use Rattle.prelude.specs.Lists.{fronted}
+use Rattle.prelude.specs.declared.refusal.Refusal.{Refusal}
 use Rattle.layout.specs.Layout.{Reading, accepted, refused, reading}
 use Rattle.answer.specs.Answer.{Entry, answer, sum}
-use Rattle.sizes.specs.declared.Sizing.{Sizing}
-use Rattle.sizes.specs.declared.Sizing.TheVariants.{Sized, Refused}
 
 -- a call is turned down with a number and a place, or the sheet has an answer with these sizes
 pub data Outcome : Type 0 where
@@ -27,11 +27,11 @@ unfoldable pub outcome : List ℕ → ℕ → Outcome
 outcome s room = consider (reading s) room
 
 -- THE RESULT: the sum of the sizes, or the refusal
-abbrev pub gives : Outcome → Sizing
-gives (turned_down n i) = Refused n i
-gives (sized sizes) = Sized (sum sizes)
+abbrev pub gives : Outcome → Result ℕ Refusal
+gives (turned_down n i) = Err (refusal n i)
+gives (sized sizes) = Ok (sum sizes)
 
-unfoldable pub sizing : List ℕ → ℕ → Sizing
+unfoldable pub sizing : List ℕ → ℕ → Result ℕ Refusal
 sizing s room = gives (outcome s room)
 
 -- THE BUFFER at exit, from the sheet's bytes and the buffer at entry
@@ -43,6 +43,6 @@ unfoldable pub sizes_after : List ℕ → List ℕ → List ℕ
 sizes_after s out = sizes_in (outcome s (length out)) out
 
 -- WHAT SIZES PROMISES of a call on the bytes s, both clauses of its contract. A primed buffer is the buffer at exit.
-pub record Sizes (s out out' : List ℕ) (r : Sizing) : Type 0 where
+pub record Sizes (s out out' : List ℕ) (r : Result ℕ Refusal) : Type 0 where
   pub result : r ≡ sizing s (length out)
   pub buffer : out' ≡ sizes_after s out

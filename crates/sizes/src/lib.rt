@@ -9,53 +9,30 @@ ghost use Rattle.sizes.specs.Sizing.{sizing, sizes_after, Sizes};
 
 use layout::Parsed;
 use prelude::MOST_SORTS;
+use prelude::refusal::{Cause, Refusal};
 
-// The answer to the question "sizes".
-#[derive(Clone, Copy)]
-pub enum Sizing {
-    // the sum of the sizes
-    Sized { sum: usize },
-    Refused { number: u8, place: usize },
-}
-
-// Sizes: those of the first answer to a sheet. It gives their sum, or the refusal's number and place; the sizes stand in front of `out`, one byte per
+// Sizes: those of the first answer to a sheet. It gives their sum, or the refusal; the sizes stand in front of `out`, one byte per
 // field, and every other byte is as it was.
-pub fn sizes(sheet: &[u8], out: &mut [u8]) -> Sizing
+pub fn sizes(sheet: &[u8], out: &mut [u8]) -> Result<usize, Refusal>
     ensures result { result ≡ sizing sheet.now (length out.old) }
     ensures buffer { out.new ≡ sizes_after sheet.now out.old }
 {
-    let parsing = sheet::parse(sheet);
-    let number = parsing.number;
-    let place = parsing.place;
-    if number != 0 {
-        return Sizing::Refused { number, place };
-    }
-    let p = parsing.sheet;
+    let p = sheet::parse(sheet)?;
     sizes_parsed(p, out)
 }
 
 // Sizes, of a sheet that has been parsed: cause 10, then cause 11, then the sizes.
-pub fn sizes_parsed(p: Parsed, out: &mut [u8]) -> Sizing
+pub fn sizes_parsed(p: Parsed, out: &mut [u8]) -> Result<usize, Refusal>
     requires { ReadFrom p }
     ensures { (q : ReadFrom p) → Sizes q.bytes out.old out.new result }
 {
     let n = p.sorts;
     if out.len() < n {
-        return Sizing::Refused {
-            number: 10,
-            place: 0,
-        };
+        return Err(Cause::ShortBuffer.at(0));
     }
-    let least = least_sizes::least_sizes(p);
-    if !least.found {
-        return Sizing::Refused {
-            number: 11,
-            place: 0,
-        };
-    }
-    let sizes = least.sizes;
+    let sizes = least_sizes::least_sizes(p).ok_or(Cause::NoAnswer.at(0))?;
     let sum = write_sizes(sizes, n, out);
-    Sizing::Sized { sum }
+    Ok(sum)
 }
 
 // Writes the first n sizes in front of the buffer, and gives their sum.

@@ -1,5 +1,6 @@
 -- What sizes wrote, and the line that shows it; and that a buffer longer than a byte for each sort makes no difference.
 use Prim.Native.Nat.{ℕ, ◌≤◌, min}
+use native.Mathlib.Decide.{dec_lt}
 use native.Mathlib.Omega.{arith}
 use mathlib.Core.Path.{◌≡◌, refl, sym, ap, ap₂, ◌∙◌}
 use mathlib.Core.Bool.{Bool, true, false}
@@ -7,16 +8,20 @@ use mathlib.Core.List.{List}
 use mathlib.Core.Option.{Option, none, some}
 use lib.ListN.{length, take, drop, length-append}
 use lib.Dec.{ltb}
+use Rattle.std.specs.Prelude.{Result, Ok, Err}
+use Rattle.prelude.specs.Causes.{number_of, refusal}
+use Rattle.prelude.specs.declared.refusal.Refusal.{Refusal}
 use Rattle.logic.specs.Sheet.{Sheet}
 use Rattle.prelude.specs.Lists.{fronted}
 use Rattle.prelude.proofs.Lists.{length_firsts}
 use Rattle.layout.specs.Layout.{Reading, accepted, refused, reading}
-use Rattle.layout.proofs.Answers.{accepted_well_formed}
+use Rattle.layout.proofs.Answers.{accepted_well_formed, refused_number}
+use Rattle.sheet.proofs.Refusals.{in_sheet}
 use Rattle.answer.specs.Answer.{Entry, answer, sum, structure_of}
 use Rattle.answer.proofs.Demand.{accepted_demand}
 use Rattle.prelude.proofs.Fronted.{front_fronted}
 use Rattle.sizes.specs.Sizing.{Outcome, turned_down, sized, answering, consider, outcome, gives, sizing, sizes_in, sizes_after}
-use Rattle.sizes.specs.declared.Sizing.TheVariants.{Sized, Refused}
+use Rattle.sizes.proofs.Outcomes.{outcome_refused, outcome_short, outcome_long}
 use Rattle.text.specs.Ascii.{ascii}
 use Rattle.text.specs.Text.{bytes_line}
 use Rattle.lines.specs.Lines.{refusal_line}
@@ -37,13 +42,27 @@ cut_outcome s room = step (reading s) refl
     step (accepted sh) q = ap (branch sh) (cut_test room 8 (length sh.bounds) (accepted_well_formed s sh q).sorts)
 
 -- the line of a call that was turned down
-pub turned_down_line : (s : List ℕ) (room n i : ℕ) → sizing s room ≡ Refused n i → sizes_line (outcome s room) ≡ refusal_line n i
+pub turned_down_line : (s : List ℕ) (room : ℕ) (r : Refusal) → Err r ≡ sizing s room → refusal_line (number_of r.cause) r.place ≡ sizes_line (outcome s room)
 unfolding sizing
-turned_down_line s room n i f = step (outcome s room) f
+turned_down_line s room r f = by_reading (reading s) refl
   where
-    step : (o : Outcome) → gives o ≡ Refused n i → sizes_line o ≡ refusal_line n i
-    step (turned_down m j) q = ap₂ refusal_line (cc) (cc)
-    step (sized sizes) q = let no : ◌≡◌ {A = ℕ} 0 1 = cc in absurd (omega arith)
+    show : (m j : ℕ) → number_of (refusal m j).cause ≡ m → outcome s room ≡ turned_down m j → refusal_line (number_of r.cause) r.place ≡ sizes_line (outcome s room)
+    show m j known o =
+        let z : ◌≡◌ {A = Result ℕ Refusal} (Err r) (Err (refusal m j)) = f ∙ ap gives o in
+        let same : r ≡ refusal m j = cc in
+        ap (λ (q : Refusal). refusal_line (number_of q.cause) q.place) same ∙ ap (λ (n : ℕ). refusal_line n j) known ∙ ap sizes_line (sym o)
+
+    by_answer : (a : Option Entry) → outcome s room ≡ answering a → refusal_line (number_of r.cause) r.place ≡ sizes_line (outcome s room)
+    by_answer none o = show 11 0 refl o
+    by_answer (some e) o = let z : ◌≡◌ {A = Result ℕ Refusal} (Err r) (Ok (sum e.sizes)) = f ∙ ap gives o in cc
+
+    by_reading : (t : Reading) → reading s ≡ t → refusal_line (number_of r.cause) r.place ≡ sizes_line (outcome s room)
+    by_reading (refused m j) t = show m j (in_sheet m (refused_number s m j t)) (outcome_refused s m j room t)
+    by_reading (accepted sh) t =
+        elim (dec_lt room (length sh.bounds)) [
+          | yes h ↦ show 10 0 refl (outcome_short s sh room t h)
+          | no h ↦ by_answer (answer sh) (outcome_long s sh (answer sh) room t (omega arith) refl)
+        ]
 
 -- sizes that were found are those of a sheet that was read, one for each sort
 record Own (s sizes : List ℕ) : Type 0 where
@@ -80,12 +99,12 @@ record Has (o : Outcome) (n : ℕ) : Type 0 where
   is : o ≡ sized sizes
   total : sum sizes ≡ n
 
-has : (o : Outcome) (n : ℕ) → gives o ≡ Sized n → Has o n
+has : (o : Outcome) (n : ℕ) → gives o ≡ Ok n → Has o n
 has (turned_down m i) n q = let no : ◌≡◌ {A = ℕ} 0 1 = cc in absurd (omega arith)
 has (sized sizes) n q = record { sizes = sizes; is = refl; total = cc }
 
 -- the sizes stand in front of the buffer, as many as the sheet has sorts, and the line shows them
-module _ (s d d' : List ℕ) (n many : ℕ) (f : sizing s (length d) ≡ Sized n) (after : d' ≡ sizes_after s d) (x : (sh : Sheet) → reading s ≡ accepted sh → many ≡ length sh.bounds) where
+module _ (s d d' : List ℕ) (n many : ℕ) (f : sizing s (length d) ≡ Ok n) (after : d' ≡ sizes_after s d) (x : (sh : Sheet) → reading s ≡ accepted sh → many ≡ length sh.bounds) where
   found : Has (outcome s (length d)) n
   unfolding sizing
   found = has (outcome s (length d)) n f

@@ -11,19 +11,17 @@ ghost use Rattle.sizes.specs.Sizing.{outcome};
 ghost use Rattle.questions.specs.Questions.{answer_room};
 ghost use Rattle.sizings.specs.Sizings.{sizes_line, sizes_reply};
 
-use lines::complaint_line;
-use prelude::{MOST_SORTS, lesser, wide};
+use lines::{complaint_line, refusal_line};
+use prelude::{MOST_SORTS, lesser};
 use questions::MOST_DECODED;
-use sizes::Sizing;
-use words::{decode, is_wrong, number, word, wrong_with};
+use words::{decode, number, word, wrong_with};
 
 // sizes SHEET BUFLEN
 pub fn sizes_question(line: &[u8], out: &mut [u8]) -> usize
     requires { (length line.now ≤ 262144) × (answer_room ≤ length out.old) }
     ensures { Wrote out.old 0 (sizes_reply line.now) out.new result }
 {
-    let wrong = wrong_with(line, b"bn");
-    if is_wrong(wrong) {
+    if let Err(wrong) = wrong_with(line, b"bn") {
         return complaint_line(out, wrong);
     }
     let mut sheet = [0u8; MOST_DECODED];
@@ -49,11 +47,11 @@ fn sizes_into(sheet: &[u8], buffer: &mut [u8], out: &mut [u8]) -> usize
 {
     let answer = sizes::sizes(sheet, buffer);
     match answer {
-        Sizing::Refused { number, place } => text::refused_line(out, wide(number), place),
-        Sizing::Sized { sum } => {
+        Ok(sum) => {
             let many = sorts_of(sheet);
             text::bytes_line(out, b"sizes", sum, &buffer[..many])
         }
+        Err(refusal) => refusal_line(out, refusal),
     }
 }
 
@@ -61,7 +59,8 @@ fn sizes_into(sheet: &[u8], buffer: &mut [u8], out: &mut [u8]) -> usize
 fn sorts_of(sheet: &[u8]) -> usize
     ensures { (sh : Sheet) → reading sheet.now ≡ accepted sh → result ≡ length sh.bounds }
 {
-    let parsing = sheet::parse(sheet);
-    let p = parsing.sheet;
-    p.sorts
+    match sheet::parse(sheet) {
+        Ok(p) => p.sorts,
+        Err(_) => 0,
+    }
 }

@@ -1,69 +1,78 @@
 -- Laws of one node of the search: the codes worth trying cover all, and codes read off the masks settle the node.
 use Prim.Native.Nat.{ℕ, ◌+◌, ◌≤◌, ◌<◌}
 use mathlib.Core.Path.{◌≡◌, refl, sym, subst, ◌∙◌}
-use mathlib.Core.Bool.{Bool, true, false, false≢true}
+use mathlib.Core.Bool.{Bool, true, false, false≢true, Bool-discrete}
 use mathlib.Core.List.{List}
 use mathlib.Core.Logic.{◌⊎◌, inl, inr}
 use native.Mathlib.Nat.{ne_of_lt, ne_of_gt}
 use native.Mathlib.Omega.{arith}
 use native.Mathlib.Decide.{dec_lt, ℕ_discrete}
 use lib.ListN.{length, set, replicate, length-set}
-use lib.Dec.{eqb}
-use borrow.Author.Tests.{eqb-true, eqb-false}
+use lib.Seq.{get_or-set_same, get_or-set_other}
 use borrow.Author.Count.{below_more}
 use Rattle.prelude.specs.Limits.{undecided}
 use Rattle.prelude.specs.Tests.{Decides}
 use Rattle.prelude.specs.Lists.{at}
 use Rattle.prelude.proofs.Tests.{answer_yes}
-use Rattle.prelude.proofs.Lists.{at_set, at_set_same, at_set_other, at_zeros}
+use Rattle.prelude.proofs.Lists.{at_set_same, at_set_other, at_zeros}
 use Rattle.logic.specs.Problem.{Problem, WellSorted, Consistent, Extends, Dead}
 use Rattle.logic.proofs.Consistent.{Unused, equal_codes, swapped, swapped_consistent, swapped_second, swapped_extends}
 use Rattle.logic.proofs.Decided.{decide_more, decide_less}
 use Rattle.consistency.proofs.WholeTest.{small_codes}
+use Rattle.knowledge.specs.declared.Known.{Known}
 use Rattle.knowledge.specs.Knows.{Bit, Single}
 use Rattle.propagate.specs.Propagated.{FitMask, Knowing}
-use Rattle.solve.specs.Solved.{Solved, Worth, Covers, Branches, Planned}
-use Rattle.solve.specs.Parts.{NeverStruck, InUse, Fresh, ReadOff, Node}
+use Rattle.std.specs.Prelude.{Option, Some, None, is_some}
+use Rattle.solve.specs.declared.Choices.{Choices}
+use Rattle.solve.specs.Solved.{Solved, flag, Worth, Covers, Branches}
+use Rattle.solve.specs.Parts.{NeverStruck, InUse, Fresh, Pending, ReadOff}
 
 -- ---- what is known before and after a decision
 module _ (P : Problem) (sizes : ℕ → ℕ) where
   pub fit_mask : WellSorted P → ((s : ℕ) → s < P.sorts → sizes s ≤ 16) → FitMask P sizes
   fit_mask w small c con = small_codes P sizes c w small con.none con.range
 
-  pub knowing_struck : (q : ℕ → ℕ) (l masks m : List ℕ) → Knowing P sizes q l masks m → NeverStruck P sizes q masks
-  knowing_struck q l masks m k c con ext i h = (k c con ext).masks i
+  pub knowing_struck : (q : ℕ → ℕ) (known : Known) → Knowing P sizes q known → NeverStruck P sizes q known.masks
+  knowing_struck q known k c con ext i h = (k c con ext).masks i
 
-  pub knowing_decided : (l masks m decided more : List ℕ) (term v : ℕ) → Knowing P sizes (at decided) l masks m → at decided term ≡ undecided → more ≡ set decided term v → Knowing P sizes (at more) l masks m
-  knowing_decided l masks m decided more term v k u e c con ext = k c con (decide_less P decided term v c u (subst (λ (d : List ℕ). Extends P (at d) c) e ext))
+  pub knowing_decided : (known : Known) (decided more : List ℕ) (term v : ℕ) → Knowing P sizes (at decided) known → at decided term ≡ undecided → more ≡ set decided term v → Knowing P sizes (at more) known
+  knowing_decided known decided more term v k u e c con ext = k c con (decide_less P decided term v c u (subst (λ (d : List ℕ). Extends P (at d) c) e ext))
 
--- ---- flags of the codes in use
+-- ---- the codes in use
 -- the flags while the terms below j have been passed
-pub record Flagged (sort decided : ℕ → ℕ) (s : ℕ) (flags : List ℕ) (j : ℕ) : Type 0 where
-  pub length : length flags ≡ 16
-  pub all : (k : ℕ) → k < j → sort k ≡ s → decided k < 16 → at flags (decided k) ≡ 1
+pub record Flagged (sort decided : ℕ → ℕ) (s : ℕ) (used : List Bool) (j : ℕ) : Type 0 where
+  pub length : length used ≡ 16
+  pub all : (k : ℕ) → k < j → sort k ≡ s → decided k < 16 → flag used (decided k) ≡ true
 
-module _ (sort decided : ℕ → ℕ) (s : ℕ) (flags : List ℕ) (j : ℕ) (f : Flagged sort decided s flags j) where
-  pub flagged_more : (v : ℕ) → v < 16 → v ≡ decided j → Flagged sort decided s (set flags v 1) (j + 1)
+module _ (sort decided : ℕ → ℕ) (s : ℕ) (used : List Bool) (j : ℕ) (f : Flagged sort decided s used j) where
+  pub flagged_more : (v : ℕ) → v < 16 → v ≡ decided j → Flagged sort decided s (set used v true) (j + 1)
   flagged_more v hv ev =
       record {
-        length = length-set flags v 1 ∙ f.length;
-        all = below_more (λ (k : ℕ). sort k ≡ s → decided k < 16 → at (set flags v 1) (decided k) ≡ 1) j
+        length = length-set used v true ∙ f.length;
+        all = below_more (λ (k : ℕ). sort k ≡ s → decided k < 16 → flag (set used v true) (decided k) ≡ true) j
             (λ k h e d. kept k (f.all k h e d))
-            (λ e d. rw (← ev) (at_set_same flags v 1 (omega (arith, f.length))));
+            (λ e d. rw (← ev) here);
       }
     where
-      kept : (k : ℕ) → at flags (decided k) ≡ 1 → at (set flags v 1) (decided k) ≡ 1
-      kept k e = elim (at_set flags v 1 (decided k)) [ inl x ↦ x ∙ e | inr x ↦ x.1 ]
+      here : flag (set used v true) v ≡ true
+      here = get_or-set_same used v true false (omega (arith, f.length))
 
-  pub flagged_high : (v : ℕ) → 16 ≤ v → v ≡ decided j → Flagged sort decided s flags (j + 1)
-  flagged_high v hv ev = record { length = f.length; all = below_more _ j f.all (λ e d. omega arith) }
+      kept : (k : ℕ) → flag used (decided k) ≡ true → flag (set used v true) (decided k) ≡ true
+      kept k e =
+          elim (ℕ_discrete (decided k) v) [
+            | yes x ↦ rw x here
+            | no x ↦ get_or-set_other used v (decided k) true false x ∙ e
+          ]
 
-  pub flagged_other : (sort j ≡ s → ⊥) → Flagged sort decided s flags (j + 1)
+  pub flagged_high : (v : ℕ) → 16 ≤ v → v ≡ decided j → Flagged sort decided s used (j + 1)
+  flagged_high v hv ev = record { length = f.length; all = below_more _ j f.all (λ e d. absurd (omega arith)) }
+
+  pub flagged_other : (sort j ≡ s → ⊥) → Flagged sort decided s used (j + 1)
   flagged_other n = record { length = f.length; all = below_more _ j f.all (λ e d. absurd (n e)) }
 
 -- a code that is not flagged is not in use
-pub unflagged : (P : Problem) (q : ℕ → ℕ) (s v : ℕ) (flags : List ℕ) → InUse P q s flags → v < 16 → (at flags v ≡ 1 → ⊥) → Unused P q s v
-unflagged P q s v flags u h n j hj e x = n (subst (λ (k : ℕ). at flags k ≡ 1) x (u j hj e (subst (λ (k : ℕ). k < 16) (sym x) h)))
+pub unflagged : (P : Problem) (q : ℕ → ℕ) (s v : ℕ) (used : List Bool) → InUse P q s used → v < 16 → (flag used v ≡ true → ⊥) → Unused P q s v
+unflagged P q s v used u h n j hj e x = n (subst (λ (k : ℕ). flag used k ≡ true) x (u j hj e (subst (λ (k : ℕ). k < 16) (sym x) h)))
 
 -- ---- reading codes off
 pub record ReadingOff (P : Problem) (q : ℕ → ℕ) (masks codes : List ℕ) (n : ℕ) : Type 0 where
@@ -105,147 +114,101 @@ module _ (P : Problem) (sizes q : ℕ → ℕ) (w : WellSorted P) (small : (s : 
   pub read_dead : (codes : List ℕ) → ReadOff P q masks codes P.terms → (Consistent P sizes (at codes) → ⊥) → Dead P sizes q
   read_dead codes r not c con ext = not (equal_codes P sizes c (at codes) (read_unique codes r c con ext) r.rest con)
 
-  pub read_extends : (codes : List ℕ) → ReadOff P q masks codes P.terms → Extends P q (at codes)
-  read_extends codes r i h d = r.decided i h d
-
   -- the codes worth trying cover all: any other is not in use and can be swapped with the first that is not in use
-  module _ (term fresh : ℕ) (flags : List ℕ) (there : term < P.terms) (f : Fresh flags (sizes (P.sort term)) fresh) (u : InUse P q (P.sort term) flags) where
-    covers : (c : ℕ → ℕ) → Consistent P sizes c → Extends P q c → (d : ℕ → ℕ) × Covers P sizes q term (sizes (P.sort term)) (at masks term) fresh flags c d
+  module _ (plan : Choices) (pending : Pending P q plan.term) (es : plan.size ≡ sizes (P.sort plan.term)) (em : plan.mask ≡ at masks plan.term) (f : Fresh plan.used plan.size plan.fresh) (u : InUse P q (P.sort plan.term) plan.used) where
+    lim : plan.size ≤ 16
+    lim = let l = small (P.sort plan.term) (w.sort plan.term pending.0) in omega arith
+
+    worth_trying : (d : ℕ → ℕ) → Consistent P sizes d → Extends P q d → (d plan.term ≤ plan.fresh) ⊎ (flag plan.used (d plan.term) ≡ true) → Worth plan (d plan.term)
+    worth_trying d con ext o =
+        let range = con.range plan.term pending.0 in
+        record {
+          below = omega arith;
+          kept = λ b. k d con ext plan.term pending.0 (subst (λ (m : ℕ). Bit m (d plan.term)) em b);
+          used = o;
+        }
+
+    covers : (c : ℕ → ℕ) → Consistent P sizes c → Extends P q c → (d : ℕ → ℕ) × Covers P sizes q plan c d
     covers c con ext =
-        elim (dec_lt fresh (c term)) [
+        elim (dec_lt plan.fresh (c plan.term)) [
           | no le ↦ (c, itself (inl (omega arith)))
           | yes gt ↦
-              elim (ℕ_discrete (at flags (c term)) 1) [
+              elim (Bool-discrete (flag plan.used (c plan.term)) true) [
                 | yes e ↦ (c, itself (inr e))
-                | no n ↦ (swapped P (P.sort term) fresh (c term) c, exchanged gt n)
+                | no n ↦ (swapped P (P.sort plan.term) plan.fresh (c plan.term) c, exchanged gt n)
               ]
         ]
       where
-        itself : (c term ≤ fresh) ⊎ (at flags (c term) ≡ 1) → Covers P sizes q term (sizes (P.sort term)) (at masks term) fresh flags c c
-        itself o =
-            record {
-              consistent = con;
-              extends = ext;
-              worth = record { below = con.range term there; kept = k c con ext term there; used = o };
-              most = omega arith;
-            }
+        itself : (c plan.term ≤ plan.fresh) ⊎ (flag plan.used (c plan.term) ≡ true) → Covers P sizes q plan c c
+        itself o = record { consistent = con; extends = ext; worth = worth_trying c con ext o; most = omega arith }
 
-        exchanged : fresh < c term → (at flags (c term) ≡ 1 → ⊥) → Covers P sizes q term (sizes (P.sort term)) (at masks term) fresh flags c (swapped P (P.sort term) fresh (c term) c)
+        exchanged : plan.fresh < c plan.term → (flag plan.used (c plan.term) ≡ true → ⊥) → Covers P sizes q plan c (swapped P (P.sort plan.term) plan.fresh (c plan.term) c)
         exchanged gt n =
-            let d = swapped P (P.sort term) fresh (c term) c in
-            let range = con.range term there in
-            let lim = small (P.sort term) (w.sort term there) in
-            let lf : fresh < sizes (P.sort term) = omega arith in
-            let con2 = swapped_consistent P (P.sort term) fresh (c term) sizes c w lf range con in
-            let ext2 = swapped_extends P (P.sort term) fresh (c term) q c (unflagged P q (P.sort term) fresh flags u (omega arith) (f.free lf)) (unflagged P q (P.sort term) (c term) flags u (omega arith) n) ext in
-            let e = swapped_second P (P.sort term) fresh (c term) c term there refl refl in
+            let range = con.range plan.term pending.0 in
+            let l = lim in
+            let lf : plan.fresh < plan.size = omega arith in
+            let con2 = swapped_consistent P (P.sort plan.term) plan.fresh (c plan.term) sizes c w (omega arith) range con in
+            let ext2 = swapped_extends P (P.sort plan.term) plan.fresh (c plan.term) q c (unflagged P q (P.sort plan.term) plan.fresh plan.used u (omega arith) (f.free lf)) (unflagged P q (P.sort plan.term) (c plan.term) plan.used u (omega arith) n) ext in
+            let e = swapped_second P (P.sort plan.term) plan.fresh (c plan.term) c plan.term pending.0 refl refl in
             record {
               consistent = con2;
               extends = ext2;
-              worth = record { below = (omega arith); kept = k d con2 ext2 term there; used = inl (omega arith) };
-              most = (omega arith);
+              worth = worth_trying _ con2 ext2 (inl (omega arith));
+              most = omega arith;
             }
 
-    pub branches : q term ≡ undecided → Branches P sizes q term (sizes (P.sort term)) (at masks term) fresh flags
-    branches e = record { there = there; pending = e; small = small (P.sort term) (w.sort term there); covers = covers }
+    pub branches : Branches P sizes q plan
+    branches = record { there = pending.0; pending = pending.1; small = lim; covers = covers }
+
+-- the codes below v that are worth trying are dead
+abbrev pub Tried : Problem → (ℕ → ℕ) → List ℕ → Choices → ℕ → Type 0
+Tried P sizes l plan v = (u : ℕ) → u < v → Worth plan u → Dead P sizes (at (set l plan.term u))
 
 -- every code worth trying is dead: so are the decisions
-pub branches_dead : (P : Problem) (sizes : ℕ → ℕ) (l : List ℕ) (term size mask fresh : ℕ) (flags : List ℕ) → Branches P sizes (at l) term size mask fresh flags
-    → ((v : ℕ) → v < size → Worth size mask fresh flags v → Dead P sizes (at (set l term v))) → Dead P sizes (at l)
-branches_dead P sizes l term size mask fresh flags b dead c con ext =
+pub branches_dead : (P : Problem) (sizes : ℕ → ℕ) (l : List ℕ) (plan : Choices) → Branches P sizes (at l) plan → Tried P sizes l plan plan.size → Dead P sizes (at l)
+branches_dead P sizes l plan b dead c con ext =
     let m = b.covers c con ext in
     let d = m.0 in
     let k = m.1 in
-    dead (d term) k.worth.below k.worth d k.consistent (decide_more P l term (d term) d k.extends refl)
+    dead (d plan.term) k.worth.below k.worth d k.consistent (decide_more P l plan.term (d plan.term) d k.extends refl)
 
 -- what the tests of a code say of its worth
-pub worth_yes : (size mask fresh v : ℕ) (flags : List ℕ) → v < size → (Bit mask v → ⊥) → v ≤ fresh → Decides true (Worth size mask fresh flags v)
-worth_yes size mask fresh v flags h n l = answer_yes (record { below = h; kept = n; used = inl l })
+module _ (plan : Choices) (v : ℕ) (h : v < plan.size) (n : Bit plan.mask v → ⊥) where
+  pub worth_yes : v ≤ plan.fresh → Decides true (Worth plan v)
+  worth_yes l = answer_yes (record { below = h; kept = n; used = inl l })
 
-pub worth_used : (size mask fresh v : ℕ) (flags : List ℕ) → v < size → (Bit mask v → ⊥) → fresh < v → Decides (eqb (at flags v) 1) (Worth size mask fresh flags v)
-worth_used size mask fresh v flags h n l =
-    record {
-      yes = λ e. record { below = h; kept = n; used = inr (eqb-true (at flags v) 1 e) };
-      no = λ e w. elim w.used [ inl x ↦ omega arith | inr x ↦ eqb-false (at flags v) 1 e x ];
-    }
+  pub worth_used : plan.fresh < v → Decides (flag plan.used v) (Worth plan v)
+  worth_used l =
+      record {
+        yes = λ e. record { below = h; kept = n; used = inr e };
+        no = λ e w. elim w.used [ inl x ↦ omega arith | inr x ↦ false≢true (sym e ∙ x) ];
+      }
 
 -- nothing has been read off yet
 pub read_none : (P : Problem) (q : ℕ → ℕ) (masks : List ℕ) → ReadingOff P q masks (replicate 256 0) 0
 read_none P q masks = record { length = refl; read = record { decided = λ i h. omega arith; only = λ i h. omega arith; rest = λ i h. at_zeros 256 i } }
 
--- the plan for a term
-pub branch_planned : (P : Problem) (sizes q : ℕ → ℕ) (term size fresh : ℕ) (masks flags : List ℕ) → WellSorted P → ((s : ℕ) → s < P.sorts → sizes s ≤ 16) → NeverStruck P sizes q masks
-    → term < P.terms → q term ≡ undecided → size ≡ sizes (P.sort term) → Fresh flags size fresh → InUse P q (P.sort term) flags → Planned P sizes q false term size (at masks term) fresh flags
-branch_planned P sizes q term size fresh masks flags w small k there pending e f u =
-    record {
-      dead = λ x. absurd (false≢true x);
-      branches = λ x.
-          subst (λ (n : ℕ). Branches P sizes q term n (at masks term) fresh flags) (sym e)
-          (branches P sizes q w small masks k term fresh flags there (subst (λ (n : ℕ). Fresh flags n fresh) e f) u pending);
-    }
-
-pub dead_planned : (P : Problem) (sizes q : ℕ → ℕ) (isDead : Bool) (term size mask fresh : ℕ) (flags : List ℕ) → isDead ≡ true → Dead P sizes q → Planned P sizes q isDead term size mask fresh flags
-dead_planned P sizes q isDead term size mask fresh flags e d = record { dead = λ x. d; branches = λ x. absurd (false≢true (sym x ∙ e)) }
-
--- the node of a plan
-pub planned_node : (P : Problem) (sizes q codes : ℕ → ℕ) (isDead found : Bool) (term term' size mask fresh : ℕ) (flags : List ℕ) → isDead ≡ false → found ≡ false → term ≡ term'
-    → Planned P sizes q isDead term' size mask fresh flags → Node P sizes q isDead found codes term size mask fresh flags
-planned_node P sizes q codes isDead found term term' size mask fresh flags d f e p =
-    record {
-      dead = λ x. absurd (false≢true (sym d ∙ x));
-      consistent = λ x. absurd (false≢true (sym f ∙ x));
-      extends = λ x. absurd (false≢true (sym f ∙ x));
-      branches = λ x y. subst (λ (t : ℕ). Branches P sizes q t size mask fresh flags) (sym e) (p.branches x);
-    }
-
--- a node that is dead, and one that is found
-module _ (P : Problem) (sizes q codes : ℕ → ℕ) (term size mask fresh : ℕ) (flags : List ℕ) where
-  pub dead_node : (isDead found : Bool) → isDead ≡ true → found ≡ false → Dead P sizes q → Node P sizes q isDead found codes term size mask fresh flags
-  dead_node isDead found d f dead =
-      record {
-        dead = λ x. dead;
-        consistent = λ x. absurd (false≢true (sym f ∙ x));
-        extends = λ x. absurd (false≢true (sym f ∙ x));
-        branches = λ x y. absurd (false≢true (sym x ∙ d));
-      }
-
-  pub found_node : (isDead found : Bool) → isDead ≡ false → found ≡ true → Consistent P sizes codes → Extends P q codes → Node P sizes q isDead found codes term size mask fresh flags
-  found_node isDead found d f con ext =
-      record {
-        dead = λ x. absurd (false≢true (sym d ∙ x));
-        consistent = λ x. con;
-        extends = λ x. ext;
-        branches = λ x y. absurd (false≢true (sym y ∙ f));
-      }
-
--- the answers of the search
-module _ (P : Problem) (sizes q c : ℕ → ℕ) where
-  pub solved_none : Dead P sizes q → Solved P sizes q false c
-  solved_none dead = record { consistent = λ e. absurd (false≢true e); extends = λ e. absurd (false≢true e); none = λ e. dead }
-
-  pub solved_found : Consistent P sizes c → Extends P q c → Solved P sizes q true c
-  solved_found con ext = record { consistent = λ e. con; extends = λ e. ext; none = λ e. absurd (false≢true (sym e)) }
-
 -- a code below a size is decided
 pub code_decided : {size : ℕ} (v : ℕ) → v < size → size ≤ 16 → v ≡ undecided → ⊥
 code_decided v h s e = omega arith
 
--- what is found with one more decided code is found
-pub solved_less : (P : Problem) (sizes c : ℕ → ℕ) (l m : List ℕ) (term v : ℕ) (found : Bool) → at l term ≡ undecided → m ≡ set l term v → found ≡ true → Solved P sizes (at m) found c → Solved P sizes (at l) found c
-solved_less P sizes c l m term v found u e f s =
-    record {
-      consistent = s.consistent;
-      extends = λ x. decide_less P l term v c u (subst (λ (k : List ℕ). Extends P (at k) c) e (s.extends x));
-      none = λ x. absurd (false≢true (sym x ∙ f));
-    }
-
--- the codes below v that are worth trying are dead
-abbrev pub Tried : Problem → (ℕ → ℕ) → List ℕ → ℕ → ℕ → ℕ → ℕ → List ℕ → ℕ → Type 0
-Tried P sizes l term size mask fresh flags v = (u : ℕ) → u < v → Worth size mask fresh flags u → Dead P sizes (at (set l term u))
-
-module _ (P : Problem) (sizes : ℕ → ℕ) (l : List ℕ) (term size mask fresh : ℕ) (flags : List ℕ) (v : ℕ) (t : Tried P sizes l term size mask fresh flags v) where
-  pub tried_dead : (m : List ℕ) → m ≡ set l term v → Dead P sizes (at m) → Tried P sizes l term size mask fresh flags (v + 1)
+module _ (P : Problem) (sizes : ℕ → ℕ) (l : List ℕ) (plan : Choices) (v : ℕ) (t : Tried P sizes l plan v) where
+  pub tried_dead : (m : List ℕ) → m ≡ set l plan.term v → Dead P sizes (at m) → Tried P sizes l plan (v + 1)
   tried_dead m e d = below_more _ v t (λ w. subst (λ (k : List ℕ). Dead P sizes (at k)) e d)
 
-  pub tried_not : (Worth size mask fresh flags v → ⊥) → Tried P sizes l term size mask fresh flags (v + 1)
+  pub tried_not : (Worth plan v → ⊥) → Tried P sizes l plan (v + 1)
   tried_not n = below_more _ v t (λ w. absurd (n w))
+
+-- codes found with one more decided code are found
+pub solved_less : (P : Problem) (sizes : ℕ → ℕ) (l m : List ℕ) (term v : ℕ) (found : Option (List ℕ)) → at l term ≡ undecided → m ≡ set l term v → is_some found ≡ true → Solved P sizes (at m) found → Solved P sizes (at l) found
+solved_less P sizes l m term v (Some codes) u e h s =
+    record {
+      consistent = s.consistent;
+      extends = decide_less P l term v (at codes) u (subst (λ (k : List ℕ). Extends P (at k) (at codes)) e s.extends);
+    }
+solved_less P sizes l m term v None u e h s = absurd (false≢true h)
+
+-- and where none are found, there are none
+pub solved_none : (P : Problem) (sizes q : ℕ → ℕ) (found : Option (List ℕ)) → is_some found ≡ false → Solved P sizes q found → Dead P sizes q
+solved_none P sizes q (Some codes) h s = absurd (false≢true (sym h))
+solved_none P sizes q None h s = s

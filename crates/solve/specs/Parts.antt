@@ -1,24 +1,30 @@
 -- For the proofs alone: what the parts of one node of the search promise.
-use Rattle.std.specs.Prelude.{ℕ, ◌≤◌, ◌<◌, ◌≡◌, Bool, true, false, List}
+use Rattle.std.specs.Prelude.{ℕ, ◌≤◌, ◌<◌, ◌≡◌, Bool, true, List, Result, Ok, Err}
 use Rattle.prelude.specs.Limits.{most_codes, undecided}
 use Rattle.prelude.specs.Lists.{at}
 use Rattle.logic.specs.Problem.{Problem, Consistent, Extends, Dead}
 use Rattle.knowledge.specs.Knows.{Bit, Single}
-use Rattle.solve.specs.Solved.{Branches}
+use Rattle.solve.specs.Solved.{Model, flag, Branches}
+use Rattle.solve.specs.declared.Visit.{Visit}
+use Rattle.solve.specs.declared.Visit.TheVariants.{Nothing, Found, Branch}
 
 -- what propagation knows of every consistent extension: no term has a code that is struck out in its mask
 abbrev pub NeverStruck : Problem → (ℕ → ℕ) → (ℕ → ℕ) → List ℕ → Type 0
 NeverStruck P size q masks = (c : ℕ → ℕ) → Consistent P size c → Extends P q c → (i : ℕ) → i < P.terms → Bit (at masks i) (c i) → ⊥
 
 -- the flags of the codes in use: every code below 16 that a decided term of sort s has
-abbrev pub InUse : Problem → (ℕ → ℕ) → ℕ → List ℕ → Type 0
-InUse P q s flags = (j : ℕ) → j < P.terms → P.sort j ≡ s → q j < most_codes → at flags (q j) ≡ 1
+abbrev pub InUse : Problem → (ℕ → ℕ) → ℕ → List Bool → Type 0
+InUse P q s used = (j : ℕ) → j < P.terms → P.sort j ≡ s → q j < most_codes → flag used (q j) ≡ true
 
 -- the first code below size that is not in use, or size
-pub record Fresh (flags : List ℕ) (size fresh : ℕ) : Type 0 where
+pub record Fresh (used : List Bool) (size fresh : ℕ) : Type 0 where
   pub most : fresh ≤ size
-  pub before : (v : ℕ) → v < fresh → at flags v ≡ 1
-  pub free : fresh < size → at flags fresh ≡ 1 → ⊥
+  pub before : (v : ℕ) → v < fresh → flag used v ≡ true
+  pub free : fresh < size → flag used fresh ≡ true → ⊥
+
+-- a term that no code has been decided for
+abbrev pub Pending : Problem → (ℕ → ℕ) → ℕ → Type 0
+Pending P q term = (term < P.terms) × (q term ≡ undecided)
 
 -- codes read off the decisions and the struck masks: a decided term has its code, and any other the only code that is not struck out
 pub record ReadOff (P : Problem) (q : ℕ → ℕ) (masks codes : List ℕ) (n : ℕ) : Type 0 where
@@ -26,14 +32,13 @@ pub record ReadOff (P : Problem) (q : ℕ → ℕ) (masks codes : List ℕ) (n :
   pub only : (i : ℕ) → i < n → q i ≡ undecided → Single (at masks i) (at codes i)
   pub rest : (i : ℕ) → n ≤ i → at codes i ≡ 0
 
--- a term that is not settled, or the codes of all terms
-pub record Settles (P : Problem) (q : ℕ → ℕ) (masks : List ℕ) (term : ℕ) (codes : List ℕ) : Type 0 where
-  pub pending : term < P.terms → q term ≡ undecided
-  pub read : P.terms ≤ term → ReadOff P q masks codes P.terms
+-- the codes of all terms, or a term that is not settled
+abbrev pub Settles : Problem → (ℕ → ℕ) → List ℕ → Result (List ℕ) ℕ → Type 0
+Settles P q masks (Ok codes) = ReadOff P q masks codes P.terms
+Settles P q masks (Err term) = Pending P q term
 
 -- one node of the search: dead, or found, or a term to branch on
-pub record Node (P : Problem) (sizes q : ℕ → ℕ) (isDead found : Bool) (c : ℕ → ℕ) (term size mask fresh : ℕ) (flags : List ℕ) : Type 0 where
-  pub dead : isDead ≡ true → Dead P sizes q
-  pub consistent : found ≡ true → Consistent P sizes c
-  pub extends : found ≡ true → Extends P q c
-  pub branches : isDead ≡ false → found ≡ false → Branches P sizes q term size mask fresh flags
+abbrev pub Node : Problem → (ℕ → ℕ) → (ℕ → ℕ) → Visit → Type 0
+Node P sizes q Nothing = Dead P sizes q
+Node P sizes q (Found codes) = Model P sizes q (at codes)
+Node P sizes q (Branch plan) = Branches P sizes q plan

@@ -2,101 +2,75 @@
 // and the mask of each term after it.
 #![tactic(auto)]
 
-ghost use Rattle.std.specs.Prelude.{◌≤◌, ◌<◌};
-ghost use Rattle.prelude.specs.Limits.{most_terms, most_literals};
+ghost use Rattle.std.specs.Prelude.{◌≡◌, true, ◌<◌, IfSome};
+ghost use Rattle.prelude.specs.Limits.{most_terms};
 ghost use Rattle.prelude.specs.Lists.{at};
-ghost use Rattle.knowledge.specs.Knows.{Bit, Masks, Marks, Knows, Means, Kept};
+ghost use Rattle.knowledge.specs.Knows.{Bit, Masks, Knows, Means, Kept, Struck, Marked};
 ghost use Rattle.starting.specs.Given.{Fixed, SameHold, DifferHold, SmallMasksMarks, Grouped, Never};
 ghost use Rattle.starting.specs.Parts.{Beyond};
 
-use knowledge::{MARK_HALVES, NO_CODE_LEFT, join, label, mark, marked, mask, strike};
-use prelude::{BYTE_VALUES, MOST_CODES, MOST_LITERALS, MOST_SORTS, MOST_TERMS, UNDECIDED, wide};
+mod literals;
+
+use knowledge::{Known, NO_CODE_LEFT, Terms};
+pub use literals::Literals;
+use prelude::{BYTE_VALUES, MOST_CODES, MOST_SORTS, MOST_TERMS, UNDECIDED, wide};
 
 // What the sizes and the decided codes strike out.
 pub fn start_masks<'a>(
-    masks: &mut [u16; MOST_TERMS],
-    labels: &'a [u8; MOST_TERMS],
-    sort: &'a [u8; MOST_TERMS],
+    known: &mut Known,
+    terms: Terms<'a>,
     sizes: &'a [u8; MOST_SORTS],
     decided: &'a [u8; BYTE_VALUES],
-    n: usize,
 )
-    requires { n ≤ most_terms }
-    ensures { Kept (Fixed n labels.now sort.now sizes.now decided.now) (Masks masks.old) (Masks masks.new) }
+    ensures { Struck (Fixed terms.entry known.old.labels sizes.now decided.now) known.old known.new }
 {
-    let mut i: usize = 0;
-    while i < n {
-        start_mask(masks, labels, sort, sizes, decided, n, i);
-        i += 1;
+    for i in 0..terms.n {
+        start_mask(known, terms, sizes, decided, i);
     }
 }
 
 // Joins what the literals say is the same.
-pub fn join_same<'a>(
-    labels: &mut [u8; MOST_TERMS],
-    masks: &mut [u16; MOST_TERMS],
-    marks: &mut [u64; MARK_HALVES],
-    equal: &'a [u8; MOST_LITERALS],
-    left: &'a [u8; MOST_LITERALS],
-    right: &'a [u8; MOST_LITERALS],
-    m: usize,
-)
-    requires { m ≤ most_literals }
-    ensures { Kept (SameHold m equal.now left.now right.now) (Knows labels.old masks.old marks.old) (Knows labels.new masks.new marks.new) }
+pub fn join_same<'a>(known: &mut Known, literals: Literals<'a>)
+    ensures { Kept (SameHold literals.entry) (Knows known.old) (Knows known.new) }
 {
-    let mut k: usize = 0;
-    while k < m {
-        join_sides(labels, masks, marks, equal, left, right, m, k);
-        k += 1;
+    for k in 0..literals.m {
+        join_sides(known, literals, k);
     }
 }
 
 // Marks what the literals say differs.
-pub fn mark_differ<'a>(
-    marks: &mut [u64; MARK_HALVES],
-    labels: &'a [u8; MOST_TERMS],
-    equal: &'a [u8; MOST_LITERALS],
-    left: &'a [u8; MOST_LITERALS],
-    right: &'a [u8; MOST_LITERALS],
-    m: usize,
-)
-    requires { m ≤ most_literals }
-    ensures { Kept (DifferHold m equal.now left.now right.now labels.now) (Marks marks.old) (Marks marks.new) }
+pub fn mark_differ<'a>(known: &mut Known, literals: Literals<'a>)
+    ensures { Marked (DifferHold literals.entry known.old.labels) known.old known.new }
 {
-    let mut k: usize = 0;
-    while k < m {
-        mark_sides(marks, labels, equal, left, right, m, k);
-        k += 1;
+    for k in 0..literals.m {
+        mark_sides(known, literals, k);
     }
 }
 
-// A group with no code left or marked against itself; MOST_TERMS where there is none.
-pub fn conflict<'a>(masks: &'a [u16; MOST_TERMS], marks: &'a [u64; MARK_HALVES], n: usize) -> usize
-    requires { n ≤ most_terms }
-    ensures { result < most_terms → Means (SmallMasksMarks masks.now marks.now) Never }
+// A group with no code left or marked against itself, if there is one among the first n.
+pub fn conflict(known: &Known, n: usize) -> Option<usize>
+    ensures { IfSome result (λ g. (g < n) × Means (SmallMasksMarks known.now) Never) }
 {
-    let mut i: usize = 0;
-    while i < n {
-        if mask(masks, i) == NO_CODE_LEFT {
-            return i;
-        }
-        if marked(marks, i, i) {
-            return i;
-        }
-        i += 1;
+    (0..n).find(|g| contradicted(known, *g))
+}
+
+// Whether a group has no code left or is marked against itself.
+fn contradicted(known: &Known, i: usize) -> bool
+    ensures { result ≡ true → Means (SmallMasksMarks known.now) Never }
+{
+    if known.mask(i) == NO_CODE_LEFT {
+        return true;
     }
-    MOST_TERMS
+    known.marked(i, i)
 }
 
 // The mask of each term's group.
-pub fn spread<'a>(labels: &'a [u8; MOST_TERMS], masks: &'a [u16; MOST_TERMS]) -> [u16; MOST_TERMS]
-    ensures { Means (Grouped labels.now masks.now) (Masks result) }
+pub fn spread(known: &Known) -> [u16; MOST_TERMS]
+    ensures { Means (Grouped known.now) (Masks result) }
 {
     let mut out = [0u16; MOST_TERMS];
-    let mut i: usize = 0;
-    while i < MOST_TERMS {
-        out[i] = mask(masks, wide(labels[i]));
-        i += 1;
+    for i in 0..MOST_TERMS {
+        out[i] = known.mask(wide(known.labels[i]));
     }
     out
 }
@@ -128,63 +102,46 @@ fn all_but(code: u8) -> u16
 
 // What the size and the decided code strike out for one term, in the mask of its group.
 fn start_mask<'a>(
-    masks: &mut [u16; MOST_TERMS],
-    labels: &'a [u8; MOST_TERMS],
-    sort: &'a [u8; MOST_TERMS],
+    known: &mut Known,
+    terms: Terms<'a>,
     sizes: &'a [u8; MOST_SORTS],
     decided: &'a [u8; BYTE_VALUES],
-    n: usize,
     i: usize,
 )
-    requires { (n ≤ most_terms) × (i < n) }
-    ensures { Kept (Fixed n labels.now sort.now sizes.now decided.now) (Masks masks.old) (Masks masks.new) }
+    requires { i < terms.n }
+    ensures { Struck (Fixed terms.entry known.old.labels sizes.now decided.now) known.old known.new }
 {
-    let g = labels[i];
-    strike(masks, wide(g), beyond(sizes, wide(sort[i])));
+    let g = known.labels[i];
+    known.strike(wide(g), beyond(sizes, wide(terms.sort[i])));
     let code = decided[i];
     if code == UNDECIDED {
         return;
     }
-    strike(masks, wide(g), all_but(code));
+    known.strike(wide(g), all_but(code));
 }
 
 // Joins the sides of one literal if it says that they are the same.
-fn join_sides<'a>(
-    labels: &mut [u8; MOST_TERMS],
-    masks: &mut [u16; MOST_TERMS],
-    marks: &mut [u64; MARK_HALVES],
-    equal: &'a [u8; MOST_LITERALS],
-    left: &'a [u8; MOST_LITERALS],
-    right: &'a [u8; MOST_LITERALS],
-    m: usize,
-    k: usize,
-)
-    requires { (m ≤ most_literals) × (k < m) }
-    ensures { Kept (SameHold m equal.now left.now right.now) (Knows labels.old masks.old marks.old) (Knows labels.new masks.new marks.new) }
+// Kept: this and `mark_sides` are no twins to be one function: one joins terms, the other marks groups, and the edits join_differ and
+// mark_same stand in them.
+fn join_sides<'a>(known: &mut Known, literals: Literals<'a>, k: usize)
+    requires { k < literals.m }
+    ensures { Kept (SameHold literals.entry) (Knows known.old) (Knows known.new) }
 {
-    let e = equal[k];
+    let e = literals.equal[k];
     if e == 1 {
-        join(labels, masks, marks, wide(left[k]), wide(right[k]));
+        known.join(wide(literals.left[k]), wide(literals.right[k]));
     }
 }
 
 // Marks the groups of the sides of one literal if it says that they differ.
-fn mark_sides<'a>(
-    marks: &mut [u64; MARK_HALVES],
-    labels: &'a [u8; MOST_TERMS],
-    equal: &'a [u8; MOST_LITERALS],
-    left: &'a [u8; MOST_LITERALS],
-    right: &'a [u8; MOST_LITERALS],
-    m: usize,
-    k: usize,
-)
-    requires { (m ≤ most_literals) × (k < m) }
-    ensures { Kept (DifferHold m equal.now left.now right.now labels.now) (Marks marks.old) (Marks marks.new) }
+fn mark_sides<'a>(known: &mut Known, literals: Literals<'a>, k: usize)
+    requires { k < literals.m }
+    ensures { Marked (DifferHold literals.entry known.old.labels) known.old known.new }
 {
-    let e = equal[k];
+    let e = literals.equal[k];
     if e == 0 {
-        let a = label(labels, left[k]);
-        let b = label(labels, right[k]);
-        mark(marks, wide(a), wide(b));
+        let a = known.label(literals.left[k]);
+        let b = known.label(literals.right[k]);
+        known.mark(wide(a), wide(b));
     }
 }

@@ -7,7 +7,7 @@ use native.Mathlib.Omega.{arith}
 use mathlib.Core.Path.{◌≡◌, refl, ap, ap₂, sym, subst, ◌∙◌}
 use mathlib.Core.List.{List, [], ◌∷◌, ◌++◌}
 use lib.ListN.{length, get_or, set, take, length-append, get_or-append}
-use lib.Seq.{paste, paste-suc, length-paste, take-paste, take_all, get_or-append-add, get_or-set_same, get_or-set_other, ext_get_or}
+use lib.Seq.{paste, length-paste, take-paste, take_all, get_or-append-add, get_or-set_same, get_or-set_other, ext_get_or}
 use mir.Val.{Val}
 use base.Fml.{Fml}
 use denote.Shadow.{shadow}
@@ -45,13 +45,6 @@ row_length n own [] us s i h = omega arith
 row_length n own (x ∷ xs) [] s i h = absurd s
 row_length n own (x ∷ xs) (u ∷ us) s zero h = s.0.1.0.1
 row_length n own (x ∷ xs) (u ∷ us) s (suc i) h = row_length n own xs us s.1 i (omega arith)
-
--- one more cell of a row is written
-pub cell_more : (d : List ℕ) (start n : ℕ) (f : ℕ → ℕ) (k : ℕ) → start + n ≤ length d → k < n → set (paste d start (firsts n f) k) (start + k) (f k) ≡ paste d start (firsts n f) (k + 1)
-cell_more d start n f k h l =
-    ap (set (paste d start (firsts n f) k) (start + k)) (sym (at_firsts n f k l))
-    ∙ paste-suc d start (firsts n f) k 0 (omega arith) (omega (arith, length_firsts n f))
-    ∙ ap (paste d start (firsts n f)) (sym (add-one k))
 
 pub length_row : (d : List ℕ) (start n : ℕ) (f : ℕ → ℕ) → start + n ≤ length d → length (paste d start (firsts n f) n) ≡ length d
 length_row d start n f h = length-paste d start (firsts n f) n h (omega (arith, length_firsts n f))

@@ -1,3 +1,4 @@
+pub mod Slices
 pub mod Tests
 pub mod Cells
 pub mod Laid

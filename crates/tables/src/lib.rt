@@ -14,16 +14,17 @@ ghost use Rattle.tables.specs.Grid.{cell, Put, grid};
 ghost use Rattle.tables.specs.Parts.{Packs, Limited, countable_cells, countable_bytes, width, CellsOf, SmallOffsets, Extents, Laying};
 
 use layout::Parsed;
-use prelude::{BYTE_VALUES, GREATEST_SIZE, MOST_CODES, MOST_SORTS, MOST_SYMBOLS, wide};
+use prelude::{
+    BYTE_VALUES, GREATEST_SIZE, MOST_CODES, MOST_SORTS, MOST_SYMBOLS, copy, lesser, wide,
+};
 
-// The answer to the question "judge".
+// The answer to the question "judge", where it is not turned down.
 #[derive(Clone, Copy)]
 pub enum Judgement {
     Fits,
     OutOfBounds,
     // the number of the first statement that is not satisfied
     Broken(usize),
-    Refused { number: u8, place: usize },
 }
 
 // Cause 12 does not apply: sizes, length and entries are right.
@@ -50,11 +51,8 @@ pub fn sizes_of(n: usize, t: &[u8]) -> [u8; MOST_SORTS]
     ensures { (s : ℕ) → s < n → at result s ≡ at t.now s }
 {
     let mut sizes = [0u8; MOST_SORTS];
-    let mut s: usize = 0;
-    while s < n {
-        sizes[s] = byte_at(t, s);
-        s += 1;
-    }
+    let there = lesser(n, t.len());
+    copy(&t[..there], &mut sizes);
     sizes
 }
 
@@ -66,11 +64,9 @@ pub fn extents(p: Parsed, sizes: [u8; MOST_SORTS]) -> [usize; MOST_SYMBOLS + 1]
     let mut offsets = [0usize; MOST_SYMBOLS + 1];
     offsets[0] = p.sorts;
     let n = p.symbols;
-    let mut f: usize = 0;
-    while f < n {
+    for f in 0..n {
         let many = cells_of(p, sizes, f);
         offsets[f + 1] = offsets[f] + many;
-        f += 1;
     }
     offsets
 }
@@ -82,8 +78,7 @@ pub fn in_bounds(p: Parsed, sizes: [u8; MOST_SORTS]) -> bool
 {
     let n = p.sorts;
     let mut sum: usize = 0;
-    let mut s: usize = 0;
-    while s < n {
+    for s in 0..n {
         let size = wide(sizes[s]);
         let floor = wide(p.floor[s]);
         let ceiling = wide(p.ceiling[s]);
@@ -94,12 +89,12 @@ pub fn in_bounds(p: Parsed, sizes: [u8; MOST_SORTS]) -> bool
             return false;
         }
         sum += size;
-        s += 1;
     }
     sum <= p.total
 }
 
 // The code of each term, 0 past the terms.
+// Kept: sizes and offsets stay two parameters, here and in entry_of: the types of public functions may not change.
 pub fn codes_of(
     p: Parsed,
     sizes: [u8; MOST_SORTS],
@@ -112,15 +107,13 @@ pub fn codes_of(
     let mut codes = [0u8; BYTE_VALUES];
     let param1 = p.param1;
     let n = p.terms;
-    let mut i: usize = 0;
-    while i < n {
+    for i in 0..n {
         let f = wide(p.symbol[i]);
         let a = wide(p.arg0[i]);
         let b = wide(p.arg1[i]);
         let x = wide(codes[a]);
         let y = wide(codes[b]);
         codes[i] = entry_of(param1, sizes, offsets, t, f, x, y);
-        i += 1;
     }
     codes
 }
@@ -131,20 +124,19 @@ pub fn first_broken(p: Parsed, codes: [u8; BYTE_VALUES]) -> Judgement
     ensures { (sh : Sheet) → Packs sh p → result ≡ statements (at codes) 0 sh.literals }
 {
     let n = p.literals;
-    let mut k: usize = 0;
-    while k < n {
+    for k in 0..n {
         let a = wide(p.left[k]);
         let b = wide(p.right[k]);
         let equal = p.equal[k];
         if !agrees(equal, codes[a], codes[b]) {
             return Judgement::Broken(k);
         }
-        k += 1;
     }
     Judgement::Fits
 }
 
 // A statement, 1 for same and 0 for differ, holds of two codes.
+// Kept: `equal` is a byte of the parsed sheet, not a bool: a public function's type may not ask more, and the contract holds at every byte.
 pub fn agrees(equal: u8, x: u8, y: u8) -> bool
     ensures { result ≡ agree (eqb equal 1) (eqb x y) }
 {
@@ -160,10 +152,8 @@ pub fn sum_of(sizes: [u8; MOST_SORTS], n: usize) -> usize
     ensures { result ≡ sum_to n (at sizes) }
 {
     let mut sum: usize = 0;
-    let mut s: usize = 0;
-    while s < n {
-        sum += wide(sizes[s]);
-        s += 1;
+    for size in &sizes[..n] {
+        sum += wide(*size);
     }
     sum
 }
@@ -233,12 +223,9 @@ pub fn write_table(
     ensures { out.new ≡ grid cells rows columns }
 {
     let mut start: usize = 0;
-    let mut r: usize = 0;
-    while r < rows {
-        let row = cells[r];
-        write_row(out, start, row, columns);
+    for row in &cells[..rows] {
+        write_row(out, start, *row, columns);
         start += columns;
-        r += 1;
     }
 }
 
@@ -246,20 +233,10 @@ pub fn write_table(
 fn sizes_right(n: usize, t: &[u8]) -> bool
     ensures { result ≡ (leb n (length t.now) && every n (λ s. within 1 most_codes (at t.now s))) }
 {
-    if t.len() < n {
-        return false;
-    }
-    let mut s: usize = 0;
-    while s < n {
-        if t[s] == 0 {
-            return false;
-        }
-        if GREATEST_SIZE < t[s] {
-            return false;
-        }
-        s += 1;
-    }
-    true
+    n <= t.len()
+        && t[..n]
+            .iter()
+            .all(|size| 1 <= *size && *size <= GREATEST_SIZE)
 }
 
 // No entry of a table is at or past the size of its symbol's sort.
@@ -273,8 +250,7 @@ fn entries_right(
     ensures { (sh : Sheet) → Laying sh p sizes offsets t.now → result ≡ every (length sh.symbols) (entries_right sh t.now) }
 {
     let n = p.symbols;
-    let mut f: usize = 0;
-    while f < n {
+    for f in 0..n {
         let many = cells_of(p, sizes, f);
         let result = wide(p.result[f]);
         let bound = width_of(sizes, result);
@@ -282,7 +258,6 @@ fn entries_right(
         if !below(t, from, many, bound) {
             return false;
         }
-        f += 1;
     }
     true
 }
@@ -292,15 +267,7 @@ fn below(t: &[u8], from: usize, n: usize, bound: usize) -> bool
     requires { (from ≤ countable_bytes) × (n ≤ countable_cells) }
     ensures { result ≡ every n (λ k. ltb (at t.now (from + k)) bound) }
 {
-    let mut k: usize = 0;
-    while k < n {
-        let x = wide(byte_at(t, from + k));
-        if bound <= x {
-            return false;
-        }
-        k += 1;
-    }
-    true
+    (from..from + n).all(|i| wide(byte_at(t, i)) < bound)
 }
 
 // How many cells the table of symbol f has at these sizes.
@@ -319,10 +286,7 @@ fn cells_of(p: Parsed, sizes: [u8; MOST_SORTS], f: usize) -> usize
 fn byte_at(t: &[u8], i: usize) -> u8
     ensures { result ≡ at t.now i }
 {
-    if i < t.len() {
-        return t[i];
-    }
-    0
+    t.get(i).copied().unwrap_or(0)
 }
 
 // Writes the first cells of a row from a place on.
@@ -330,9 +294,5 @@ fn write_row(out: &mut [u8], start: usize, row: [u8; MOST_CODES], columns: usize
     requires { (columns ≤ most_codes) × (start + columns ≤ length out.old) }
     ensures { out.new ≡ paste out.old start (firsts columns (at row)) columns }
 {
-    let mut k: usize = 0;
-    while k < columns {
-        out[start + k] = row[k];
-        k += 1;
-    }
+    copy(&row[..columns], &mut out[start..start + columns]);
 }

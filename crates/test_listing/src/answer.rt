@@ -7,6 +7,7 @@ use test_sheets::numbers::{byte, larger, plus, smaller, wide};
 use test_sheets::plan::{LITERALS, MOST_SORTS, PLAN, SORTS, count, record_at};
 
 // Where there is no answer, the key is one that comes after every key.
+// Kept: a number, as a key is compared with others place by place.
 pub const NOTHING: u8 = 255;
 
 // Sizes are listed from 1 to one past floor and ceiling, so that some lie out of bounds.

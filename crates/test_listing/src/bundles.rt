@@ -7,6 +7,7 @@ use test_sheets::tray::{MOST_SHEETS, TRAY, length, sum};
 // The bytes of a sheet's total, its last record.
 pub const TOTAL_BYTES: usize = 5;
 
+// Kept: a number of its own, against which the product's causes are held (docs/FORMAT.md, Refusals).
 // The eight sums; number 0 and what is left of the limit, or the number and the place of a refusal; and the sums of the sheets before one that is refused.
 #[derive(Clone, Copy, Drop)]
 pub struct Want {

@@ -77,9 +77,7 @@ pub fn first_tables(s: Shape) -> [u8; ROOM] {
 
 // One turn of an odometer over the cells from..to, each below its limit, the last one fastest; after the last tables come the first again.
 pub fn turn(tables: &mut [u8; ROOM], limit: &[u8; ROOM], from: usize, to: usize) {
-    let mut i = to;
-    while from < i {
-        i -= 1;
+    for i in (from..to).rev() {
         if rolled(tables, limit, i) {
             return;
         }

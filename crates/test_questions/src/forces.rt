@@ -1,6 +1,5 @@
 // Forced on every pair of terms, against the interpretations that tell them apart.
 use crate::tally::{COUNTS, FORCED, FREE, NO_PAIR, expect, refusal};
-use forced::Forcing;
 use test_listing::apart::{PAIRS, together};
 use test_sheets::numbers::{smaller, times};
 use test_sheets::plan::{MOST_TERMS, PLAN, TERMS, count, sort_of};
@@ -51,8 +50,8 @@ fn outcome(want: usize) -> usize {
 // Forced's answer as a number: 1 yes, 0 no, 1000 + number a refusal at place 0.
 fn asked(sheet: &[u8], a: usize, b: usize) -> usize {
     match forced::forced(sheet, a, b) {
-        Forcing::Yes => 1,
-        Forcing::No => 0,
-        Forcing::Refused { number, place } => refusal(number, place),
+        Ok(true) => 1,
+        Ok(false) => 0,
+        Err(r) => refusal(r.cause.number(), r.place),
     }
 }

@@ -1,6 +1,5 @@
 // Group of every term, against the interpretations that tell terms apart.
 use crate::tally::{COUNTS, LOWER, NO_TERM, OWN, expect, refusal};
-use group::Grouping;
 use test_listing::apart::{PAIRS, together};
 use test_sheets::numbers::smaller;
 use test_sheets::plan::{MOST_TERMS, PLAN, TERMS, count, sort_of};
@@ -53,7 +52,7 @@ fn outcome(e: usize, want: usize) -> usize {
 // Group's answer as a number: that of the group, 1000 + number a refusal at place 0.
 fn asked(sheet: &[u8], e: usize) -> usize {
     match group::group(sheet, e) {
-        Grouping::Group(k) => k,
-        Grouping::Refused { number, place } => refusal(number, place),
+        Ok(k) => k,
+        Err(r) => refusal(r.cause.number(), r.place),
     }
 }

@@ -177,9 +177,9 @@ fn outcome(want: usize) -> usize {
 // Judge's answer as a number: 0 fits, 1 out of bounds, 2 + k broken statement k, 1000 + number a refusal at place 0.
 fn asked(sheet: &[u8], tables: &[u8]) -> usize {
     match judge::judge(sheet, tables) {
-        Judgement::Fits => 0,
-        Judgement::OutOfBounds => 1,
-        Judgement::Broken(k) => plus(2, k),
-        Judgement::Refused { number, place } => refusal(number, place),
+        Ok(Judgement::Fits) => 0,
+        Ok(Judgement::OutOfBounds) => 1,
+        Ok(Judgement::Broken(k)) => plus(2, k),
+        Err(r) => refusal(r.cause.number(), r.place),
     }
 }

@@ -176,6 +176,7 @@ pub fn expect(
 }
 
 // A refusal as a number: 1000 and its number at place 0, and no such number elsewhere.
+// Kept: the paper's number, as a question's whole answer is compared as one number.
 pub fn refusal(number: u8, place: usize) -> usize {
     if place == 0 {
         1000 + wide(number)

@@ -8,7 +8,6 @@ use test_listing::shape::{ROOM, Shape, stretch_of};
 use test_sheets::dice::pick;
 use test_sheets::numbers::{byte, minus, plus, smaller, times, wide};
 use test_sheets::plan::{MOST_SORTS, PLAN, SORTS, SYMBOLS, count, record_at};
-use walk::Walking;
 
 // The most events of a walk, and the bytes of its trail: up to four in front, a code for each event, and up to two behind.
 const EVENTS: usize = 12;
@@ -262,7 +261,7 @@ fn asked(sheet: &[u8], tables: &[u8], c: Call, events: &[u8], trail: &mut [u8]) 
         &mut trail[0..t],
         c.start,
     ) {
-        Walking::Written { length } => smaller(length, 999),
-        Walking::Refused { number, place } => refusal(number, place),
+        Ok(length) => smaller(length, 999),
+        Err(r) => refusal(r.cause.number(), r.place),
     }
 }

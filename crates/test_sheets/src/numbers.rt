@@ -5,7 +5,7 @@ ghost use Rattle.std.specs.Prelude.{◌≡◌, ◌<◌, ◌≤◌};
 pub fn wide(x: u8) -> usize
     ensures { (result ≡ x) × (result < 256) }
 {
-    x as usize
+    usize::from(x)
 }
 
 // A number as a byte.
@@ -26,16 +26,16 @@ pub fn times(a: usize, b: usize) -> usize {
 pub fn larger(a: usize, b: usize) -> usize
     ensures { b ≤ result }
 {
-    if a < b { b } else { a }
+    a.max(b)
 }
 
 pub fn smaller(a: usize, b: usize) -> usize
     ensures { result ≤ b }
 {
-    if a < b { a } else { b }
+    a.min(b)
 }
 
 // The difference, 0 where the second number is the larger.
 pub fn minus(a: usize, b: usize) -> usize {
-    if a < b { 0 } else { a - b }
+    a.saturating_sub(b)
 }

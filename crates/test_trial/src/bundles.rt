@@ -1,7 +1,8 @@
 // Bundle on listed sheets as they come, one to eight in turn, and on bundles of a large one, against what the listing says of each: at limits around the sum, in
 // reverse order, with sheets of zero bytes behind, and with another sheet at each place.
 use crate::bundle_faults;
-use bundle::{Bundling, Stock};
+use bundle::Shares;
+use prelude::refusal::Refusal;
 use test_listing::answer::{NOTHING, list};
 use test_listing::bundles::{Want, spent, wanted};
 use test_listing::shape::ROOM;
@@ -118,6 +119,7 @@ pub(crate) fn ask(
     );
 }
 
+// Kept: the paper's number, which the listing's answers have (`test_listing::bundles`).
 fn outcome(number: u8, answer: usize) -> usize {
     match number {
         0 => answer,
@@ -141,16 +143,11 @@ pub(crate) fn hold(
     expect(agrees(got, w), outcome, b"bundle", first(bytes, n), counts);
 }
 
-fn agrees(got: Bundling, w: Want) -> bool {
-    let sums = got.sums;
-    let right = w.sums;
-    let stock = got.stock;
-    check::same(&sums, &right) && stocked(stock, w)
-}
-
-fn stocked(stock: Stock, w: Want) -> bool {
-    match stock {
-        Stock::Left(left) => w.number == 0 && wide(left) == w.at,
-        Stock::Refused { number, place } => w.number != 0 && number == w.number && place == w.at,
+fn agrees(got: Result<Shares, Refusal>, w: Want) -> bool {
+    match got {
+        Ok(shares) => {
+            w.number == 0 && check::same(&shares.sums, &w.sums) && wide(shares.left) == w.at
+        }
+        Err(r) => w.number != 0 && r.cause.number() == w.number && r.place == w.at,
     }
 }

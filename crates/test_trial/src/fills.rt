@@ -1,8 +1,6 @@
 // Read, find, sizes and find_at on a sheet whose first fill stands once more behind the last one, which is refusal 16, and on the sheet with that fill moved
 // in front of its first statement, which is then refusal 3. Buffers and sizes are such that an accepted sheet would be refused with 10 or 17.
-use find_at::Finding;
-use sheet::Verdict;
-use sizes::Sizing;
+use prelude::refusal::Refusal;
 use test_questions::slices::first;
 use test_questions::tally::{BEHIND_FILL, COUNTS, SECOND_FILL, expect};
 use test_sheets::encode::{SHEET, first_place, put, put_places};
@@ -41,6 +39,7 @@ fn behind(p: [u8; PLAN], counts: &mut [u64; COUNTS]) {
 }
 
 // The sheet is the first n bytes; it is to be refused with this number at this place.
+// Kept: the paper's number, against which the product's causes are held.
 fn refused(
     bytes: &[u8; SHEET],
     n: usize,
@@ -50,42 +49,24 @@ fn refused(
     counts: &mut [u64; COUNTS],
 ) {
     let sheet = first(bytes, n);
-    let right = not_read(sheet, number, place)
-        && not_found(sheet, number, place)
-        && not_sized(sheet, number, place)
-        && not_found_at(sheet, number, place);
+    let right = is_refused(sheet::read(sheet), number, place)
+        && is_refused(
+            finder::find(sheet, &mut [0u8; 1], &mut [0u8; 1]),
+            number,
+            place,
+        )
+        && is_refused(sizes::sizes(sheet, &mut [0u8; 1]), number, place)
+        && is_refused(
+            find_at::find_at(sheet, &[0u8; 1], &mut [0u8; 1], &mut [0u8; 1]),
+            number,
+            place,
+        );
     expect(right, outcome, b"a fill out of place", sheet, counts);
 }
 
-fn not_read(sheet: &[u8], want: u8, at: usize) -> bool {
-    match sheet::read(sheet) {
-        Verdict::Accepted => false,
-        Verdict::Refused { number, place } => number == want && place == at,
-    }
-}
-
-fn not_found(sheet: &[u8], want: u8, at: usize) -> bool {
-    is_refused(finder::find(sheet, &mut [0u8; 1], &mut [0u8; 1]), want, at)
-}
-
-fn not_found_at(sheet: &[u8], want: u8, at: usize) -> bool {
-    is_refused(
-        find_at::find_at(sheet, &[0u8; 1], &mut [0u8; 1], &mut [0u8; 1]),
-        want,
-        at,
-    )
-}
-
-fn is_refused(f: Finding, want: u8, at: usize) -> bool {
-    match f {
-        Finding::Found { .. } => false,
-        Finding::Refused { number, place } => number == want && place == at,
-    }
-}
-
-fn not_sized(sheet: &[u8], want: u8, at: usize) -> bool {
-    match sizes::sizes(sheet, &mut [0u8; 1]) {
-        Sizing::Sized { .. } => false,
-        Sizing::Refused { number, place } => number == want && place == at,
+fn is_refused<T: Copy>(answer: Result<T, Refusal>, want: u8, at: usize) -> bool {
+    match answer {
+        Ok(_) => false,
+        Err(r) => r.cause.number() == want && r.place == at,
     }
 }

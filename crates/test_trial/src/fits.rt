@@ -1,9 +1,7 @@
 // Fitted against the sheet that the test writes from the listing's answer, byte for byte, in buffers that are roomy, exact and too short; and find on
 // what fitted wrote, which is to give the old names the very same tables.
 use crate::buffers::written;
-use find_at::Finding;
-use fitted::Fitting;
-use sheet::Verdict;
+use prelude::refusal::Refusal;
 use test_listing::answer::NOTHING;
 use test_listing::fitted::{too_many, write};
 use test_listing::keys::KEY;
@@ -127,9 +125,14 @@ fn agrees(sheet: &[u8], want: &[u8; SHEET], w: Want, lent: Lent) -> bool {
 // Fitted's answer as a number: the length, or a refusal.
 fn asked(sheet: &[u8], out: &mut [u8], lent: usize) -> usize {
     let n = smaller(lent, out.len());
-    match fitted::fitted(sheet, &mut out[0..n]) {
-        Fitting::Written { length } => smaller(length, REFUSED - 1),
-        Fitting::Refused { number, place } => plus(REFUSED, refusal(number, place)),
+    number_of(fitted::fitted(sheet, &mut out[0..n]))
+}
+
+// An answer's length or sum as a number, or its refusal.
+fn number_of(answer: Result<usize, Refusal>) -> usize {
+    match answer {
+        Ok(n) => smaller(n, REFUSED - 1),
+        Err(r) => plus(REFUSED, refusal(r.cause.number(), r.place)),
     }
 }
 
@@ -138,7 +141,7 @@ fn again(sheet: &[u8], key: [u8; KEY], best: &[u8; ROOM], n: usize, counts: &mut
     let mut out = [0u8; SHEET];
     let length = asked(sheet, &mut out, ENOUGH);
     let new = first(&out, length);
-    let right = accepted(new) && found_again(new, key, best, n);
+    let right = sheet::read(new).is_ok() && found_again(new, key, best, n);
     expect(
         right,
         FOUND_AGAIN,
@@ -153,18 +156,8 @@ fn found_again(new: &[u8], key: [u8; KEY], best: &[u8; ROOM], n: usize) -> bool 
     found(new, &mut tables) == wide(key[0]) && check::same(first(&tables, n), first(best, n))
 }
 
-fn accepted(sheet: &[u8]) -> bool {
-    match sheet::read(sheet) {
-        Verdict::Accepted => true,
-        Verdict::Refused { .. } => false,
-    }
-}
-
 // The sum that find gives, or a refusal as a number.
 fn found(sheet: &[u8], tables: &mut [u8]) -> usize {
     let mut codes = [255u8; CODES];
-    match finder::find(sheet, &mut codes, tables) {
-        Finding::Found { sum } => smaller(sum, REFUSED - 1),
-        Finding::Refused { number, place } => plus(REFUSED, refusal(number, place)),
-    }
+    number_of(finder::find(sheet, &mut codes, tables))
 }

@@ -126,6 +126,7 @@ fn wrong_list(g: Given, enough: Lent, sheet: &[u8], counts: &mut [u64; COUNTS]) 
 }
 
 // A call is refused with this number.
+// Kept: the paper's number, against which the product's causes are held.
 fn turned_down(
     g: Given,
     number: u8,

@@ -1,6 +1,6 @@
 // The buffers that find and find_at are lent, and what a call is to give and to leave in them.
 use crate::buffers::written;
-use find_at::Finding;
+use prelude::refusal::Refusal;
 use test_listing::answer::NOTHING;
 use test_listing::keys::KEY;
 use test_listing::shape::{ROOM, length};
@@ -92,10 +92,10 @@ pub(crate) fn fewer_tables(exact: Lent) -> Lent {
 }
 
 // What a call gave, as a number: the sum, which is below 999, or 1000 + number a refusal at place 0.
-pub(crate) fn number_of(f: Finding) -> usize {
-    match f {
-        Finding::Found { sum } => smaller(sum, 999),
-        Finding::Refused { number, place } => refusal(number, place),
+pub(crate) fn number_of(answer: Result<usize, Refusal>) -> usize {
+    match answer {
+        Ok(sum) => smaller(sum, 999),
+        Err(r) => refusal(r.cause.number(), r.place),
     }
 }
 

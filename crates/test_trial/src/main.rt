@@ -35,10 +35,8 @@ fn main() {
     one_sheet([0u8; PLAN], &mut any, &mut answered, &mut counts);
     at_limits(&mut any, &mut answered, &mut counts);
     bundles::of_large(&mut counts);
-    let mut k: usize = 0;
-    while k < DRAWN {
+    for k in 0..DRAWN {
         one_sheet(drawn(k, &mut state), &mut any, &mut answered, &mut counts);
-        k += 1;
     }
     tally::report(&counts);
 }

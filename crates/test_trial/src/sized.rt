@@ -1,6 +1,6 @@
 // Sizes against the first candidate of the listing: the sum and the sizes, in buffers that are roomy, exact and too short.
 use crate::buffers::written;
-use sizes::Sizing;
+use crate::lent::number_of;
 use test_listing::answer::NOTHING;
 use test_listing::keys::KEY;
 use test_questions::tally::{COUNTS, NOT_SIZED, SHORT_SIZED, SIZED, expect, refusal};
@@ -58,8 +58,5 @@ fn agrees(sheet: &[u8], key: [u8; KEY], w: Want, lent: usize, fill: u8) -> bool 
 // The answer of sizes as a number: the sum, which is below 999, or 1000 + number a refusal at place 0.
 pub(crate) fn asked(sheet: &[u8], out: &mut [u8], lent: usize) -> usize {
     let n = smaller(lent, out.len());
-    match sizes::sizes(sheet, &mut out[0..n]) {
-        Sizing::Sized { sum } => smaller(sum, 999),
-        Sizing::Refused { number, place } => refusal(number, place),
-    }
+    number_of(sizes::sizes(sheet, &mut out[0..n]))
 }

@@ -97,6 +97,7 @@ pub fn bytes_line(out: &mut [u8], word: &[u8], number: usize, bytes: &[u8]) -> u
 }
 
 // Writes a word at a place, and gives the place behind it.
+// Kept: a buffer and a place, here and below, since this is what each line's contract speaks of (`Wrote out.old 0 (..) out.new result`).
 pub fn put(out: &mut [u8], at: usize, word: &[u8]) -> usize
     requires { at + length word.now ≤ length out.old }
     ensures { Wrote out.old at word.now out.new result }
@@ -106,6 +107,7 @@ pub fn put(out: &mut [u8], at: usize, word: &[u8]) -> usize
 }
 
 // Writes the decimal digits of a number at a place, and gives the place behind them.
+// Kept: no `write!`, which states of a slice no byte that it writes (`contents` of std's `Write`).
 fn put_number(out: &mut [u8], at: usize, n: usize) -> usize
     requires { at + length (decimal n) ≤ length out.old }
     ensures { Wrote out.old at (decimal n) out.new result }
@@ -136,10 +138,8 @@ fn put_cells(out: &mut [u8], from: usize, cells: &[u8]) -> usize
     ensures short { result ≤ from + 4 * length cells.now }
 {
     let mut at = from;
-    let mut i: usize = 0;
-    while i < cells.len() {
-        at = put_spaced(out, at, cells[i] as usize);
-        i += 1;
+    for cell in cells {
+        at = put_spaced(out, at, *cell as usize);
     }
     at
 }
@@ -149,7 +149,7 @@ fn put_bytes(out: &mut [u8], at: usize, s: &[u8]) -> usize
     requires { at + (2 + 2 * length s.now) ≤ length out.old }
     ensures { Wrote out.old at (32 ∷ shown s.now) out.new result }
 {
-    if s.len() == 0 {
+    if s.is_empty() {
         return put(out, at, b" -");
     }
     let next = put(out, at, b" ");
@@ -157,15 +157,14 @@ fn put_bytes(out: &mut [u8], at: usize, s: &[u8]) -> usize
 }
 
 // Writes the hexadecimal digits of bytes, and gives the place behind them.
+// Kept: not one function with `put_cells` over a closure, which would need what each writes as a parameter: two lines of loop are plainer.
 fn put_hex(out: &mut [u8], from: usize, s: &[u8]) -> usize
     requires { from + 2 * length s.now ≤ length out.old }
     ensures { Wrote out.old from (hex s.now) out.new result }
 {
     let mut at = from;
-    let mut done: usize = 0;
-    while done < s.len() {
-        at = put_byte(out, at, s[done]);
-        done += 1;
+    for b in s {
+        at = put_byte(out, at, *b);
     }
     at
 }
@@ -181,6 +180,7 @@ fn put_byte(out: &mut [u8], at: usize, b: u8) -> usize
 }
 
 // The character of a digit below 16.
+// Kept: no `char::from_digit`, which would be no plainer: it gives an `Option` of a `char`, and takes a `u32` and the base.
 fn hex_digit(d: u8) -> u8
     requires { d < 16 }
     ensures { result ≡ hex_digit d }

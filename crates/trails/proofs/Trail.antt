@@ -8,14 +8,19 @@ use mathlib.Core.List.{List}
 use lib.ListN.{length, take, drop}
 use lib.Dec.{ltb}
 use borrow.Author.Tests.{lt-ltb, le-ltb}
+use Rattle.std.specs.Prelude.{Ok, Err}
+use Rattle.prelude.specs.Causes.{number_of, refusal}
+use Rattle.prelude.specs.declared.refusal.Refusal.{Refusal}
 use Rattle.text.specs.Ascii.{ascii}
 use Rattle.text.specs.Text.{bytes_line}
 use Rattle.lines.specs.Lines.{refusal_line}
 use Rattle.layout.specs.Layout.{Reading, accepted, refused, reading}
+use Rattle.layout.proofs.Answers.{refused_number}
+use Rattle.sheet.proofs.Refusals.{in_sheet}
 use Rattle.tables.specs.Layout.{decoded}
-use Rattle.walk.specs.Walk.{Outcome, turned_down, walked, through, consider, outcome, walks, walking, trail_after}
-use Rattle.walk.specs.declared.Walking.TheVariants.{Written, Refused}
+use Rattle.walk.specs.Walk.{walk, Outcome, turned_down, through, consider, outcome, walking, trail_after}
 use Rattle.walk.proofs.Steps.{length_walk}
+use Rattle.walk.proofs.Outcomes.{outcome_refused, outcome_short, outcome_malformed, outcome_absent, outcome_walked, Way, unread, short, malformed, absent, there, way, result_of_lem}
 use Rattle.walk.proofs.Walked.{allowed_walks, written_walked}
 use Rattle.questions.specs.Questions.{bytes_at, number_at}
 use Rattle.trails.specs.Trails.{walk_line}
@@ -23,16 +28,29 @@ use Rattle.trails.specs.Parts.{WalkNumbers}
 use Rattle.trails.specs.declared.Numbers.{Numbers}
 
 -- the line of a call that was turned down
-pub turned_down_line : (sheet t : List ℕ) (s c : ℕ) (fs : List ℕ) (room start n i : ℕ) → walking sheet t s c fs room start ≡ Refused n i → walk_line (outcome sheet t s c fs room start) ≡ refusal_line n i
-unfolding walking
-turned_down_line sheet t s c fs room start n i f = step (outcome sheet t s c fs room start) f
+pub turned_down_line :
+    (sheet t : List ℕ) (s c : ℕ) (fs : List ℕ) (room start : ℕ) (r : Refusal) → Err r ≡ walking sheet t s c fs room start
+    → refusal_line (number_of r.cause) r.place ≡ walk_line (outcome sheet t s c fs room start)
+turned_down_line sheet t s c fs room start r f = step (way sheet t s c fs room start)
   where
-    step : (o : Outcome) → walks o ≡ Refused n i → walk_line o ≡ refusal_line n i
-    step (turned_down m j) q = ap₂ refusal_line (cc) (cc)
-    step (walked cs) q = let z : ◌≡◌ {A = ℕ} 0 1 = cc in absurd (omega arith)
+    show : (m j : ℕ) → number_of (refusal m j).cause ≡ m → outcome sheet t s c fs room start ≡ turned_down m j
+        → refusal_line (number_of r.cause) r.place ≡ walk_line (outcome sheet t s c fs room start)
+    show m j known o =
+        let z : Err r ≡ Err (refusal m j) = f ∙ result_of_lem sheet t s c fs room start (turned_down m j) o in
+        let same : r ≡ refusal m j = cc in
+        ap (λ (q : Refusal). refusal_line (number_of q.cause) q.place) same ∙ ap (λ (n : ℕ). refusal_line n j) known ∙ ap walk_line (sym o)
+
+    step : Way sheet t s c fs room start → refusal_line (number_of r.cause) r.place ≡ walk_line (outcome sheet t s c fs room start)
+    step (unread m j q) = show m j (in_sheet m (refused_number sheet m j q)) (outcome_refused sheet t s c fs room start m j q)
+    step (short sh q h) = show 10 0 refl (outcome_short sheet t s c fs room start sh q h)
+    step (malformed sh q h l) = show 12 0 refl (outcome_malformed sheet t s c fs room start sh q h l)
+    step (absent sh q h l w) = show 15 0 refl (outcome_absent sheet t s c fs room start sh q h l w)
+    step (there sh q h l w) =
+        let z : Err r ≡ Ok (length (walk (decoded sh t) c fs)) = f ∙ result_of_lem sheet t s c fs room start _ (outcome_walked sheet t s c fs room start sh q h l w) in
+        absurd cc
 
 -- the codes that were written stand in the trail from the start on, and the line shows them
-module _ (sheet t : List ℕ) (s c : ℕ) (fs trail trail' : List ℕ) (start n : ℕ) (f : walking sheet t s c fs (length trail) start ≡ Written n) (after : trail' ≡ trail_after sheet t s c fs trail start) where
+module _ (sheet t : List ℕ) (s c : ℕ) (fs trail trail' : List ℕ) (start n : ℕ) (f : walking sheet t s c fs (length trail) start ≡ Ok n) (after : trail' ≡ trail_after sheet t s c fs trail start) where
   pub codes_within : start + n ≤ length trail
   codes_within = let w = written_walked sheet t s c fs trail start n f in omega (arith, w.many, w.allowed.fits)
 

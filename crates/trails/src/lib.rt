@@ -9,11 +9,10 @@ ghost use Rattle.questions.specs.Questions.{most_decoded, answer_room};
 ghost use Rattle.trails.specs.Trails.{walk_line, walk_reply};
 ghost use Rattle.trails.specs.Parts.{WalkNumbers};
 
-use lines::complaint_line;
-use prelude::{lesser, wide};
+use lines::{complaint_line, refusal_line};
+use prelude::lesser;
 use questions::MOST_DECODED;
-use walk::Walking;
-use words::{decode, is_wrong, number, word, wrong_with};
+use words::{decode, number, word, wrong_with};
 
 // The numbers of a walk: the field, the starting code, how many bytes the trail has, and where the codes start in it.
 #[derive(Clone, Copy)]
@@ -29,8 +28,7 @@ pub fn walk_question(line: &[u8], out: &mut [u8]) -> usize
     requires { (length line.now ≤ 262144) × (answer_room ≤ length out.old) }
     ensures { Wrote out.old 0 (walk_reply line.now) out.new result }
 {
-    let wrong = wrong_with(line, b"bbnnbnn");
-    if is_wrong(wrong) {
+    if let Err(wrong) = wrong_with(line, b"bbnnbnn") {
         return complaint_line(out, wrong);
     }
     let mut sheet = [0u8; MOST_DECODED];
@@ -97,10 +95,10 @@ fn walk_into(
 {
     let answer = walk::walk(sheet, tables, sort, code, events, trail, start);
     match answer {
-        Walking::Refused { number, place } => text::refused_line(out, wide(number), place),
-        Walking::Written { length } => {
+        Ok(length) => {
             let end = start + length;
             text::bytes_line(out, b"trail", length, &trail[start..end])
         }
+        Err(refusal) => refusal_line(out, refusal),
     }
 }

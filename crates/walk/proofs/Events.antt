@@ -9,6 +9,8 @@ use mathlib.Core.List.{List, [], ◌∷◌}
 use lib.ListN.{length}
 use lib.Dec.{eqb}
 use borrow.Author.Tests.{ltb-true, lt-ltb, eqb-true, eq-eqb, ne_eqb}
+use Rattle.std.specs.Prelude.{Ok, Err}
+use Rattle.prelude.specs.Causes.{refusal}
 use Rattle.prelude.specs.Limits.{missing}
 use Rattle.prelude.specs.Lists.{at}
 use Rattle.prelude.specs.Tests.{same_list}
@@ -23,7 +25,7 @@ use Rattle.tables.proofs.Packing.{one_param, packs_views, symbols_packed, result
 use Rattle.tables.proofs.Whole.{laid_offset}
 use Rattle.walk.specs.Walk.{stays_in, all_stay, walkable}
 use Rattle.walk.specs.Promise.{StaysIn, Walkable}
-use Rattle.walk.specs.Parts.{cause_of}
+use Rattle.walk.specs.Parts.{admitted}
 
 pub stays_in_test : (sh : Sheet) (s f : ℕ) → (stays_in sh s f ≡ true) ↔ StaysIn sh s f
 stays_in_test sh s f = (
@@ -59,24 +61,24 @@ module _ (sh : Sheet) (t : List ℕ) (s c : ℕ) (fs : List ℕ) where
         | inr e ↦ e
       ]
 
-  -- the first of the causes 12 and 15, by the tests
-  pub cause_malformed : well_laid sh t ≡ false → 12 ≡ cause_of sh t s c fs
+  -- the causes 12 and 15, by the tests
+  pub cause_malformed : well_laid sh t ≡ false → Err (refusal 12 0) ≡ admitted sh t s c fs
   cause_malformed e = rw e refl
 
-  pub cause_absent : well_laid sh t ≡ true → walkable sh t s c fs ≡ false → 15 ≡ cause_of sh t s c fs
+  pub cause_absent : well_laid sh t ≡ true → walkable sh t s c fs ≡ false → Err (refusal 15 0) ≡ admitted sh t s c fs
   cause_absent e w = rw (e, w) refl
 
-  pub cause_none : well_laid sh t ≡ true → walkable sh t s c fs ≡ true → 0 ≡ cause_of sh t s c fs
+  pub cause_none : well_laid sh t ≡ true → walkable sh t s c fs ≡ true → Ok tt ≡ admitted sh t s c fs
   cause_none e w = rw (e, w) refl
 
-  -- and what no cause says
-  pub none_cause : cause_of sh t s c fs ≡ 0 → (well_laid sh t ≡ true) × (walkable sh t s c fs ≡ true)
-  none_cause z = by (well_laid sh t) (walkable sh t s c fs) refl refl
+  -- and what it says that neither applies
+  pub none_cause : (u : Unit {0}) → Ok u ≡ admitted sh t s c fs → (well_laid sh t ≡ true) × (walkable sh t s c fs ≡ true)
+  none_cause u z = by (well_laid sh t) (walkable sh t s c fs) refl refl
     where
       by : (a b : Bool) → well_laid sh t ≡ a → walkable sh t s c fs ≡ b → (well_laid sh t ≡ true) × (walkable sh t s c fs ≡ true)
       by true true e f = (e, f)
-      by true false e f = absurd (omega (arith, cause_absent e f ∙ z))
-      by false b e f = absurd (omega (arith, cause_malformed e ∙ z))
+      by true false e f = let never : Ok u ≡ Err (refusal 15 0) = z ∙ sym (cause_absent e f) in absurd cc
+      by false b e f = let never : Ok u ≡ Err (refusal 12 0) = z ∙ sym (cause_malformed e) in absurd cc
 
 -- the test of cause 15, by the parsed sheet and the sizes that were copied from the tables
 module _ (sh : Sheet) (p : Parsed) (k : Packs sh p) (t : List ℕ) (s c : ℕ) (fs : List ℕ) where

@@ -8,12 +8,15 @@ use mathlib.Core.List.{List}
 use lib.ListN.{length}
 use lib.Dec.{ltb}
 use borrow.Author.Tests.{lt-ltb, le-ltb}
+use Rattle.std.specs.Prelude.{Ok, Err}
+use Rattle.prelude.specs.Causes.{refusal}
+use Rattle.prelude.specs.declared.refusal.Refusal.{Refusal}
 use Rattle.logic.specs.Sheet.{Sheet}
 use Rattle.layout.specs.Layout.{Reading, accepted, refused, reading}
 use Rattle.tables.specs.Layout.{decoded}
 use Rattle.tables.specs.Tests.{well_laid}
 use Rattle.walk.specs.Walk.{walk, walkable, Outcome, turned_down, walked, consider, outcome, walks, walking, trail_in, trail_after}
-use Rattle.walk.specs.Parts.{cause_of}
+use Rattle.walk.specs.Parts.{admitted}
 
 module _ (sheet t : List ℕ) (s c : ℕ) (fs : List ℕ) (room start : ℕ) where
   pub outcome_refused : (n i : ℕ) → reading sheet ≡ refused n i → outcome sheet t s c fs room start ≡ turned_down n i
@@ -49,13 +52,13 @@ module _ (sheet t : List ℕ) (s c : ℕ) (fs : List ℕ) (room start : ℕ) whe
     outcome_walked h e f = by_tests false true true (le-ltb room (start + length fs) h) e f
 
     -- the first of the causes 12 and 15 that applies
-    pub outcome_cause : (n : ℕ) → start + length fs ≤ room → n ≡ cause_of sh t s c fs → (n ≡ 0 → ⊥) → outcome sheet t s c fs room start ≡ turned_down n 0
-    outcome_cause n h e z = by (well_laid sh t) (walkable sh t s c fs) refl refl
+    pub outcome_cause : (r : Refusal) → start + length fs ≤ room → Err r ≡ admitted sh t s c fs → (n : ℕ) × (r ≡ refusal n 0) × (outcome sheet t s c fs room start ≡ turned_down n 0)
+    outcome_cause r h e = by (well_laid sh t) (walkable sh t s c fs) refl refl
       where
-        by : (a b : Bool) → well_laid sh t ≡ a → walkable sh t s c fs ≡ b → outcome sheet t s c fs room start ≡ turned_down n 0
-        by false b l w = outcome_malformed h l ∙ ap (λ (m : ℕ). turned_down m 0) (sym (e ∙ rw l refl))
-        by true false l w = outcome_absent h l w ∙ ap (λ (m : ℕ). turned_down m 0) (sym (e ∙ rw (l, w) refl))
-        by true true l w = absurd (z (e ∙ rw (l, w) refl))
+        by : (a b : Bool) → well_laid sh t ≡ a → walkable sh t s c fs ≡ b → (n : ℕ) × (r ≡ refusal n 0) × (outcome sheet t s c fs room start ≡ turned_down n 0)
+        by false b l w = let q : Err r ≡ Err (refusal 12 0) = e ∙ rw l refl in (12, cc, outcome_malformed h l)
+        by true false l w = let q : Err r ≡ Err (refusal 15 0) = e ∙ rw (l, w) refl in (15, cc, outcome_absent h l w)
+        by true true l w = let q : Err r ≡ Ok tt = e ∙ rw (l, w) refl in absurd cc
 
   -- the ways that a call can go
   pub data Way : Type 0 where

@@ -5,17 +5,19 @@ use mathlib.Core.Path.{◌≡◌, refl, ap, ap₂, sym, ◌∙◌, subst}
 use mathlib.Core.Logic.{◌⊎◌, inl, inr, ◌↔◌}
 use mathlib.Core.List.{List, []}
 use lib.ListN.{length, take, drop}
+use Rattle.std.specs.Prelude.{Result, Ok, Err}
+use Rattle.prelude.specs.Causes.{number_of, refusal}
+use Rattle.prelude.specs.declared.refusal.Refusal.{Refusal}
 use Rattle.prelude.specs.Lists.{at}
 use Rattle.prelude.specs.Pasted.{pasted}
 use Rattle.prelude.proofs.Pasted.{pasted_none, pasted_before, pasted_there, pasted_behind, at_pasted}
 use Rattle.logic.specs.Sheet.{Sheet}
 use Rattle.layout.specs.Layout.{accepted, reading, InSheet}
-use Rattle.layout.proofs.Answers.{refused_number}
+use Rattle.sheet.proofs.Refusals.{refused_in_sheet}
 use Rattle.tables.specs.Layout.{decoded, WellLaid}
 use Rattle.tables.proofs.Laid.{well_laid_test, laid_interprets}
 use Rattle.walk.specs.Walk.{walk, Outcome, turned_down, walked, outcome, walking, trail_after}
 use Rattle.walk.specs.Promise.{Walkable, Allowed, Walked}
-use Rattle.walk.specs.declared.Walking.TheVariants.{Written, Refused}
 use Rattle.walk.proofs.Steps.{length_walk, walk_at, walk_below}
 use Rattle.walk.proofs.Events.{walkable_test, not_walkable}
 use Rattle.walk.proofs.Outcomes.{outcome_refused, outcome_short, outcome_malformed, outcome_absent, outcome_walked, Way, unread, short, malformed, absent, there, way, result_of_lem, trail_of}
@@ -27,14 +29,13 @@ module _ (sheet t : List ℕ) (s c : ℕ) (fs : List ℕ) (room start : ℕ) whe
       outcome_walked sheet t s c fs room start sh q a.fits ((well_laid_test sh t).1 a.laid) ((walkable_test sh t s c fs).1 a.walkable)
 
   -- and only such a call says that it has written
-  written_allowed : (n : ℕ) → walking sheet t s c fs room start ≡ Written n → (sh : Sheet) × (reading sheet ≡ accepted sh) × Allowed sh t s c fs room start
+  written_allowed : (n : ℕ) → walking sheet t s c fs room start ≡ Ok n → (sh : Sheet) × (reading sheet ≡ accepted sh) × Allowed sh t s c fs room start
   written_allowed n e = go (way sheet t s c fs room start)
     where
       not_turned_down : (m i : ℕ) → outcome sheet t s c fs room start ≡ turned_down m i → ⊥
       not_turned_down m i q =
-          let r : Written n ≡ Refused m i = sym e ∙ result_of_lem sheet t s c fs room start (turned_down m i) q in
-          let z : ◌≡◌ {A = ℕ} 0 1 = cc in
-          omega arith
+          let r : Ok n ≡ Err (refusal m i) = sym e ∙ result_of_lem sheet t s c fs room start (turned_down m i) q in
+          cc
 
       go : Way sheet t s c fs room start → (sh : Sheet) × (reading sheet ≡ accepted sh) × Allowed sh t s c fs room start
       go (unread m i q) = absurd (not_turned_down m i (outcome_refused sheet t s c fs room start m i q))
@@ -44,7 +45,7 @@ module _ (sheet t : List ℕ) (s c : ℕ) (fs : List ℕ) (room start : ℕ) whe
       go (there sh q h l w) = (sh, q, record { fits = h; laid = (well_laid_test sh t).0 l; walkable = (walkable_test sh t s c fs).0 w })
 
   -- whatever sheet the bytes are read as
-  pub written_of : (sh : Sheet) → reading sheet ≡ accepted sh → (n : ℕ) → walking sheet t s c fs room start ≡ Written n → Allowed sh t s c fs room start
+  pub written_of : (sh : Sheet) → reading sheet ≡ accepted sh → (n : ℕ) → walking sheet t s c fs room start ≡ Ok n → Allowed sh t s c fs room start
   written_of sh q n e =
       let w = written_allowed n e in
       let both : accepted w.0 ≡ accepted sh = sym w.1 ∙ q in
@@ -52,63 +53,58 @@ module _ (sheet t : List ℕ) (s c : ℕ) (fs : List ℕ) (room start : ℕ) whe
       subst (λ (x : Sheet). Allowed x t s c fs room start) same w.2
 
   -- THEOREM: on an accepted sheet a call writes a code for each event exactly when no cause behind the sheet's own applies
-  pub written_exactly : (sh : Sheet) → reading sheet ≡ accepted sh → (walking sheet t s c fs room start ≡ Written (length fs)) ↔ Allowed sh t s c fs room start
+  pub written_exactly : (sh : Sheet) → reading sheet ≡ accepted sh → (walking sheet t s c fs room start ≡ Ok (length fs)) ↔ Allowed sh t s c fs room start
   written_exactly sh q =
-      (written_of sh q (length fs), λ a. result_of_lem sheet t s c fs room start _ (allowed_walks sh q a) ∙ ap Written (length_walk (decoded sh t) c fs))
+      (written_of sh q (length fs), λ a. result_of_lem sheet t s c fs room start _ (allowed_walks sh q a) ∙ ap Ok (length_walk (decoded sh t) c fs))
 
   -- THEOREM: 15 exactly when the walk is not well-formed, where no earlier cause applies
-  pub fifteen_exactly : (sh : Sheet) → reading sheet ≡ accepted sh → start + length fs ≤ room → WellLaid sh t → (walking sheet t s c fs room start ≡ Refused 15 0) ↔ (Walkable sh t s c fs → ⊥)
+  pub fifteen_exactly : (sh : Sheet) → reading sheet ≡ accepted sh → start + length fs ≤ room → WellLaid sh t → (walking sheet t s c fs room start ≡ Err (refusal 15 0)) ↔ (Walkable sh t s c fs → ⊥)
   fifteen_exactly sh q h l = (
     λ e w.
-        let r : Refused 15 0 ≡ Written (length (walk (decoded sh t) c fs)) = sym e ∙ result_of_lem sheet t s c fs room start _ (allowed_walks sh q (record { fits = h; laid = l; walkable = w })) in
-        let z : ◌≡◌ {A = ℕ} 0 1 = cc in
-        omega arith,
+        let r : Err (refusal 15 0) ≡ Ok (length (walk (decoded sh t) c fs)) = sym e ∙ result_of_lem sheet t s c fs room start _ (allowed_walks sh q (record { fits = h; laid = l; walkable = w })) in
+        cc,
     λ n. result_of_lem sheet t s c fs room start _ (outcome_absent sheet t s c fs room start sh q h ((well_laid_test sh t).1 l) (not_walkable sh t s c fs n)),
   )
 
   -- THEOREM: the numbers that it refuses with are those of reading, 10, 12 and 15, from 10 on with place 0
-  pub refusal_number_lem : (n i : ℕ) → walking sheet t s c fs room start ≡ Refused n i → InSheet n ⊎ (((n ≡ 10) ⊎ ((n ≡ 12) ⊎ (n ≡ 15))) × (i ≡ 0))
-  refusal_number_lem n i e = go (way sheet t s c fs room start)
+  pub refusal_number_lem : (r : Refusal) → walking sheet t s c fs room start ≡ Err r → InSheet (number_of r.cause) ⊎ (((number_of r.cause ≡ 10) ⊎ ((number_of r.cause ≡ 12) ⊎ (number_of r.cause ≡ 15))) × (r.place ≡ 0))
+  refusal_number_lem r e = go (way sheet t s c fs room start)
     where
-      Listed : Type 0
-      Listed = InSheet n ⊎ (((n ≡ 10) ⊎ ((n ≡ 12) ⊎ (n ≡ 15))) × (i ≡ 0))
+      Listed : Refusal → Type 0
+      Listed q = InSheet (number_of q.cause) ⊎ (((number_of q.cause ≡ 10) ⊎ ((number_of q.cause ≡ 12) ⊎ (number_of q.cause ≡ 15))) × (q.place ≡ 0))
 
-      numbers : (m j : ℕ) → outcome sheet t s c fs room start ≡ turned_down m j → (n ≡ m) × (i ≡ j)
-      numbers m j q = let r : Refused n i ≡ Refused m j = sym e ∙ result_of_lem sheet t s c fs room start (turned_down m j) q in (cc, cc)
+      same : (m j : ℕ) → outcome sheet t s c fs room start ≡ turned_down m j → refusal m j ≡ r
+      same m j q = let z : Err (refusal m j) ≡ Err r = sym (result_of_lem sheet t s c fs room start (turned_down m j) q) ∙ e in cc
 
-      go : Way sheet t s c fs room start → Listed
-      go (unread m j q) =
-          let y = numbers m j (outcome_refused sheet t s c fs room start m j q) in
-          inl (subst InSheet (sym y.0) (refused_number sheet m j q))
-      go (short sh q h) = let y = numbers 10 0 (outcome_short sheet t s c fs room start sh q h) in inr (inl y.0, y.1)
-      go (malformed sh q h l) = let y = numbers 12 0 (outcome_malformed sheet t s c fs room start sh q h l) in inr (inr (inl y.0), y.1)
-      go (absent sh q h l w) = let y = numbers 15 0 (outcome_absent sheet t s c fs room start sh q h l w) in inr (inr (inr y.0), y.1)
+      go : Way sheet t s c fs room start → Listed r
+      go (unread m j q) = subst Listed (same m j (outcome_refused sheet t s c fs room start m j q)) (inl (refused_in_sheet sheet m j q))
+      go (short sh q h) = subst Listed (same 10 0 (outcome_short sheet t s c fs room start sh q h)) (inr (inl refl, refl))
+      go (malformed sh q h l) = subst Listed (same 12 0 (outcome_malformed sheet t s c fs room start sh q h l)) (inr (inr (inl refl), refl))
+      go (absent sh q h l w) = subst Listed (same 15 0 (outcome_absent sheet t s c fs room start sh q h l w)) (inr (inr (inr refl), refl))
       go (there sh q h l w) =
-          let r : Refused n i ≡ Written (length (walk (decoded sh t) c fs)) = sym e ∙ result_of_lem sheet t s c fs room start _ (outcome_walked sheet t s c fs room start sh q h l w) in
-          let z : ◌≡◌ {A = ℕ} 0 1 = cc in
-          absurd (omega arith)
+          let z : Err r ≡ Ok (length (walk (decoded sh t) c fs)) = sym e ∙ result_of_lem sheet t s c fs room start _ (outcome_walked sheet t s c fs room start sh q h l w) in
+          absurd cc
 
 module _ (sheet t : List ℕ) (s c : ℕ) (fs trail : List ℕ) (start : ℕ) where
   -- THEOREM: a refused call leaves the trail as it was
-  pub refused_untouched : (n i : ℕ) → walking sheet t s c fs (length trail) start ≡ Refused n i → trail_after sheet t s c fs trail start ≡ trail
-  refused_untouched n i e = step (outcome sheet t s c fs (length trail) start) refl
+  pub refused_untouched : (r : Refusal) → walking sheet t s c fs (length trail) start ≡ Err r → trail_after sheet t s c fs trail start ≡ trail
+  refused_untouched r e = step (outcome sheet t s c fs (length trail) start) refl
     where
       step : (o : Outcome) → outcome sheet t s c fs (length trail) start ≡ o → trail_after sheet t s c fs trail start ≡ trail
       step (turned_down m j) q = trail_of sheet t s c fs trail start (turned_down m j) q
       step (walked cs) q =
-          let r : Refused n i ≡ Written (length cs) = sym e ∙ result_of_lem sheet t s c fs (length trail) start (walked cs) q in
-          let z : ◌≡◌ {A = ℕ} 0 1 = cc in
-          absurd (omega arith)
+          let z : Err r ≡ Ok (length cs) = sym e ∙ result_of_lem sheet t s c fs (length trail) start (walked cs) q in
+          absurd cc
 
   -- THEOREM: what a call has written
-  pub written_walked : (n : ℕ) → walking sheet t s c fs (length trail) start ≡ Written n → Walked sheet t s c fs trail start n
+  pub written_walked : (n : ℕ) → walking sheet t s c fs (length trail) start ≡ Ok n → Walked sheet t s c fs trail start n
   written_walked n e =
       let w = written_allowed sheet t s c fs (length trail) start n e in
       let sh = w.0 in
       let a = w.2 in
       let M = decoded sh t in
       let o = allowed_walks sheet t s c fs (length trail) start sh w.1 a in
-      let r : Written n ≡ Written (length (walk M c fs)) = sym e ∙ result_of_lem sheet t s c fs (length trail) start _ o in
+      let r : ◌≡◌ {A = Result ℕ Refusal} (Ok n) (Ok (length (walk M c fs))) = sym e ∙ result_of_lem sheet t s c fs (length trail) start _ o in
       let long : n ≡ length (walk M c fs) = cc in
       let many : n ≡ length fs = long ∙ length_walk M c fs in
       let fits : start + length (walk M c fs) ≤ length trail = omega (arith, a.fits, long, many) in

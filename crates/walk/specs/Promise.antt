@@ -1,11 +1,10 @@
 -- The interface: what follows from the equations of Walk for every call. Proved in proofs/Walked.antt and proofs/InTurn.antt.
-use Rattle.std.specs.Prelude.{ℕ, ◌+◌, ◌≤◌, ◌<◌, ◌≡◌, ◌↔◌, List, [], ◌∷◌, ◌++◌, length, take, drop}
+use Rattle.std.specs.Prelude.{ℕ, ◌+◌, ◌≤◌, ◌<◌, ◌≡◌, ◌↔◌, List, [], ◌∷◌, ◌++◌, length, take, drop, Ok}
 use Rattle.prelude.specs.Lists.{at}
 use Rattle.logic.specs.Sheet.{Sheet, symbol_at}
 use Rattle.layout.specs.Layout.{accepted, reading}
 use Rattle.tables.specs.Layout.{decoded, WellLaid}
 use Rattle.walk.specs.Walk.{walk, end, walking, trail_after}
-use Rattle.walk.specs.declared.Walking.TheVariants.{Written}
 
 -- the symbol f is there, takes just the sort s and gives it
 pub record StaysIn (sh : Sheet) (s f : ℕ) : Type 0 where
@@ -41,12 +40,12 @@ pub record Walked (sheet t : List ℕ) (s c : ℕ) (fs trail : List ℕ) (start 
 
 -- Two calls in turn write all their codes: the second goes on behind the codes of the first, from the code where the first ended.
 pub record InTurn (sheet t : List ℕ) (sh : Sheet) (s c : ℕ) (fs gs trail : List ℕ) (start : ℕ) : Type 0 where
-  pub first : walking sheet t s c fs (length trail) start ≡ Written (length fs)
-  pub second : walking sheet t s (end (decoded sh t) c fs) gs (length trail) (start + length fs) ≡ Written (length gs)
+  pub first : walking sheet t s c fs (length trail) start ≡ Ok (length fs)
+  pub second : walking sheet t s (end (decoded sh t) c fs) gs (length trail) (start + length fs) ≡ Ok (length gs)
 
 -- A call on two lists of events, one after the other, writes exactly when the two calls in turn do, and leaves the same trail. `two_lists`.
 pub record TwoLists (sheet t : List ℕ) (sh : Sheet) (s c : ℕ) (fs gs trail : List ℕ) (start : ℕ) : Type 0 where
-  pub writes : (walking sheet t s c (fs ++ gs) (length trail) start ≡ Written (length (fs ++ gs))) ↔ InTurn sheet t sh s c fs gs trail start
+  pub writes : (walking sheet t s c (fs ++ gs) (length trail) start ≡ Ok (length (fs ++ gs))) ↔ InTurn sheet t sh s c fs gs trail start
   pub same :
       InTurn sheet t sh s c fs gs trail start
       → trail_after sheet t s c (fs ++ gs) trail start ≡ trail_after sheet t s (end (decoded sh t) c fs) gs (trail_after sheet t s c fs trail start) (start + length fs)

@@ -1,5 +1,7 @@
 -- The interface: the question "walk" (docs/FORMAT.md, "The questions" and "Refusals"): what it gives back for every call, and what the trail holds afterwards.
-use Rattle.std.specs.Prelude.{ℕ, ◌+◌, Bool, true, false, ◌&&◌, List, [], ◌∷◌, length, ltb, eqb}
+use Rattle.std.specs.Prelude.{ℕ, ◌+◌, Bool, true, false, ◌&&◌, List, [], ◌∷◌, length, ltb, eqb, Result, Ok, Err}
+use Rattle.prelude.specs.Causes.{refusal}
+use Rattle.prelude.specs.declared.refusal.Refusal.{Refusal}
 use Rattle.prelude.specs.Lists.{at}
 use Rattle.prelude.specs.Pasted.{pasted}
 use Rattle.prelude.specs.Tests.{every, same_list}
@@ -8,8 +10,6 @@ use Rattle.logic.specs.Structure.{Structure}
 use Rattle.layout.specs.Layout.{Reading, accepted, refused, reading}
 use Rattle.tables.specs.Layout.{decoded}
 use Rattle.tables.specs.Tests.{well_laid}
-use Rattle.walk.specs.declared.Walking.{Walking}
-use Rattle.walk.specs.declared.Walking.TheVariants.{Written, Refused}
 
 -- THE WALK from code c: the code after each event, which is what the event's table holds at the code before it
 abbrev pub walk : Structure → ℕ → List ℕ → List ℕ
@@ -56,11 +56,11 @@ unfoldable pub outcome : List ℕ → List ℕ → ℕ → ℕ → List ℕ → 
 outcome sheet t s c fs room start = consider (reading sheet) t s c fs room start
 
 -- THE RESULT: how many codes were written, or the refusal
-abbrev pub walks : Outcome → Walking
-walks (turned_down n i) = Refused n i
-walks (walked cs) = Written (length cs)
+abbrev pub walks : Outcome → Result ℕ Refusal
+walks (turned_down n i) = Err (refusal n i)
+walks (walked cs) = Ok (length cs)
 
-unfoldable pub walking : List ℕ → List ℕ → ℕ → ℕ → List ℕ → ℕ → ℕ → Walking
+unfoldable pub walking : List ℕ → List ℕ → ℕ → ℕ → List ℕ → ℕ → ℕ → Result ℕ Refusal
 walking sheet t s c fs room start = walks (outcome sheet t s c fs room start)
 
 -- THE TRAIL at exit, from the trail at entry: the codes stand from the start on, and every other byte is as it was

@@ -1,23 +1,16 @@
 // The question "walk": the codes that a list of events leads through, read from tables one event at a time.
 #![tactic(auto)]
 
-ghost use Rattle.std.specs.Prelude.{ℕ, ◌<◌, ◌+◌, ◌≡◌, true, ltb, length};
+ghost use Rattle.std.specs.Prelude.{ℕ, ◌<◌, ◌+◌, ◌≡◌, true, ltb, length, IfOk};
 ghost use Rattle.logic.specs.Sheet.{Sheet};
 ghost use Rattle.tables.specs.Layout.{decoded};
 ghost use Rattle.tables.specs.Parts.{Packs, Limited};
 ghost use Rattle.walk.specs.Walk.{walk, stays_in, all_stay, walkable, walking, trail_after};
-ghost use Rattle.walk.specs.Parts.{cause_of};
+ghost use Rattle.walk.specs.Parts.{admitted};
 
 use layout::Parsed;
+use prelude::refusal::{Cause, Refusal};
 use prelude::{MISSING, wide};
-
-// The answer to the question "walk".
-#[derive(Clone, Copy)]
-pub enum Walking {
-    // how many codes were written
-    Written { length: usize },
-    Refused { number: u8, place: usize },
-}
 
 // Walk: the code after each event, from the starting code on, written into the trail from the start on. It gives how many were written, or the
 // refusal's number and place.
@@ -29,31 +22,19 @@ pub fn walk(
     events: &[u8],
     trail: &mut [u8],
     start: usize,
-) -> Walking
+) -> Result<usize, Refusal>
     ensures result { result ≡ walking sheet.now tables.now sort code events.now (length trail.old) start }
     ensures trail { trail.new ≡ trail_after sheet.now tables.now sort code events.now trail.old start }
 {
-    let parsing = sheet::parse(sheet);
-    let number = parsing.number;
-    let place = parsing.place;
-    if number != 0 {
-        return Walking::Refused { number, place };
-    }
+    let p = sheet::parse(sheet)?;
     let length = events.len();
     if is_short(trail.len(), start, length) {
-        return Walking::Refused {
-            number: 10,
-            place: 0,
-        };
+        return Err(Cause::ShortBuffer.at(0));
     }
-    let p = parsing.sheet;
-    let number = cause(p, tables, sort, code, events);
-    if number != 0 {
-        return Walking::Refused { number, place: 0 };
-    }
+    admitted(p, tables, sort, code, events)?;
     let end = start + length;
     write_walk(p, tables, code as u8, events, &mut trail[start..end]);
-    Walking::Written { length }
+    Ok(length)
 }
 
 // Cause 10: the start is past the trail's end, or fewer bytes than events follow it.
@@ -66,18 +47,19 @@ fn is_short(room: usize, start: usize, many: usize) -> bool
     room - start < many
 }
 
-// The first of the causes 12 and 15 that applies, 0 where none does.
-fn cause(p: Parsed, t: &[u8], sort: usize, code: usize, events: &[u8]) -> u8
+// The causes 12 and 15: neither applies, or the first that does is the refusal.
+fn admitted(p: Parsed, t: &[u8], sort: usize, code: usize, events: &[u8]) -> Result<(), Refusal>
     requires { Limited p }
-    ensures { ((sh : Sheet) → Packs sh p → result ≡ cause_of sh t.now sort code events.now) × (result ≡ 0 → code < 256) }
+    ensures tests { (sh : Sheet) → Packs sh p → result ≡ admitted sh t.now sort code events.now }
+    ensures code { IfOk result (λ u. code < 256) }
 {
     if !tables::well_laid(p, t) {
-        return 12;
+        return Err(Cause::IllLaid.at(0));
     }
     if !is_walkable(p, t, sort, code, events) {
-        return 15;
+        return Err(Cause::NoWalk.at(0));
     }
-    0
+    Ok(())
 }
 
 // Cause 15 does not apply: the sort is there, the starting code is below its size, and every event stays in it.
@@ -100,13 +82,10 @@ fn all_stay(p: Parsed, sort: usize, events: &[u8]) -> bool
     requires { Limited p }
     ensures { (sh : Sheet) → Packs sh p → result ≡ all_stay sh sort events.now }
 {
-    let many = events.len();
-    let mut k: usize = 0;
-    while k < many {
-        if !stays_in(p, sort, wide(events[k])) {
+    for event in events {
+        if !stays_in(p, sort, wide(*event)) {
             return false;
         }
-        k += 1;
     }
     true
 }
@@ -137,11 +116,9 @@ fn write_walk(p: Parsed, t: &[u8], code: u8, events: &[u8], out: &mut [u8])
     let offsets = tables::extents(p, sizes);
     let param1 = p.param1;
     let mut c = code;
-    let mut k: usize = 0;
-    while k < events.len() {
-        let next = tables::entry_of(param1, sizes, offsets, t, wide(events[k]), wide(c), 0);
+    for (k, event) in events.iter().enumerate() {
+        let next = tables::entry_of(param1, sizes, offsets, t, wide(*event), wide(c), 0);
         out[k] = next;
         c = next;
-        k += 1;
     }
 }

@@ -10,10 +10,10 @@ use lib.Dec.{ltb}
 use borrow.Author.Tests.{ltb-false}
 use Rattle.prelude.specs.Tests.{same_list}
 use Rattle.prelude.proofs.Tests.{same_list_same, same_same_list}
-use Rattle.words.specs.declared.Complaint.{Complaint}
-use Rattle.words.specs.declared.Complaint.TheVariants.{Nothing, TooFew, TooMany, NotNumber, AboveByte}
+use Rattle.std.specs.Prelude.{Err}
+use Rattle.words.specs.declared.Complaint.TheVariants.{TooFew, TooMany, NotNumber, AboveByte}
 use Rattle.words.specs.Words.{word_at, many, is_numeral, number_of}
-use Rattle.words.specs.Complaints.{is_wrong, or_else, greatest_limit, wrong_limit, wrong_word, wrong_words, complaint_of}
+use Rattle.words.specs.Complaints.{Complaining, fine, is_wrong, or_else, greatest_limit, wrong_limit, wrong_word, wrong_words, complaint_of}
 
 pub same_list_lem : (r : Bool) (a b : List ℕ) → (r ≡ true → a ≡ b) × (a ≡ b → r ≡ true) → r ≡ same_list a b
 same_list_lem true a b h = sym (subst (λ (x : List ℕ). same_list a x ≡ true) (h.0 refl) (same_same_list a))
@@ -24,7 +24,7 @@ same_list_lem false a b h = step (same_list a b) refl
     step false e = sym e
 
 module _ (line kinds : List ℕ) (i : ℕ) (h : i < length kinds) where
-  abbrev one : Complaint
+  abbrev one : Complaining
   one = wrong_word (get_or kinds i 0) (i + 2) (word_at line (i + 1))
 
   from : wrong_words (drop i kinds) (i + 1) line ≡ or_else one (wrong_words (drop (i + 1) kinds) (i + 1 + 1) line)
@@ -36,18 +36,18 @@ module _ (line kinds : List ℕ) (i : ℕ) (h : i < length kinds) where
       ∙ ap (λ (n : ℕ). or_else (wrong_word (get_or kinds i 0) n (word_at line (i + 1))) (wrong_words (drop (suc i) kinds) (suc (i + 1)) line)) p
       ∙ ap₂ (λ (x y : ℕ). or_else one (wrong_words (drop x kinds) y line)) q r
 
-  module _ (all : Complaint) (e : wrong_words (drop i kinds) (i + 1) line ≡ all) where
+  module _ (all : Complaining) (e : wrong_words (drop i kinds) (i + 1) line ≡ all) where
     pub word_wrong : is_wrong one ≡ true → one ≡ all
     word_wrong t = ap (λ (b : Bool). cond b one (wrong_words (drop (i + 1) kinds) (i + 1 + 1) line)) (sym t) ∙ sym from ∙ e
 
     pub word_right : is_wrong one ≡ false → wrong_words (drop (i + 1) kinds) (i + 1 + 1) line ≡ all
     word_right t = ap (λ (b : Bool). cond b one (wrong_words (drop (i + 1) kinds) (i + 1 + 1) line)) (sym t) ∙ sym from ∙ e
 
-pub words_right : (line kinds : List ℕ) (i : ℕ) → length kinds ≤ i → (all : Complaint) → wrong_words (drop i kinds) (i + 1) line ≡ all → Nothing ≡ all
+pub words_right : (line kinds : List ℕ) (i : ℕ) → length kinds ≤ i → (all : Complaining) → wrong_words (drop i kinds) (i + 1) line ≡ all → fine ≡ all
 words_right line kinds i h all e = ap (λ (l : List ℕ). wrong_words l (i + 1) line) (sym (drop_of_length-le kinds h)) ∙ e
 
 -- where neither of two complaints is one
-neither : (c d : Complaint) → is_wrong (or_else c d) ≡ false → (is_wrong c ≡ false) × (is_wrong d ≡ false)
+neither : (c d : Complaining) → is_wrong (or_else c d) ≡ false → (is_wrong c ≡ false) × (is_wrong d ≡ false)
 neither c d e = step (is_wrong c) refl e
   where
     step : (b : Bool) → is_wrong c ≡ b → is_wrong (cond b c d) ≡ false → (is_wrong c ≡ false) × (is_wrong d ≡ false)
@@ -59,17 +59,17 @@ pub second_right : (a b : ℕ) (line : List ℕ) → is_wrong (complaint_of (a �
 unfolding complaint_of
 second_right a b line e = enough (ltb 2 (many line)) (ltb 3 (many line)) e
   where
-    enough : (x y : Bool) → is_wrong (cond x (cond y TooMany (wrong_words (a ∷ b ∷ []) 1 line)) TooFew) ≡ false → is_wrong (wrong_word b 3 (word_at line 2)) ≡ false
+    enough : (x y : Bool) → is_wrong (cond x (cond y (Err TooMany) (wrong_words (a ∷ b ∷ []) 1 line)) (Err TooFew)) ≡ false → is_wrong (wrong_word b 3 (word_at line 2)) ≡ false
     enough false y g = absurd (false≢true (sym g))
     enough true true g = absurd (false≢true (sym g))
-    enough true false g = (neither (wrong_word b 3 (word_at line 2)) Nothing (neither (wrong_word a 2 (word_at line 1)) (wrong_words (b ∷ []) 2 line) g).1).0
+    enough true false g = (neither (wrong_word b 3 (word_at line 2)) fine (neither (wrong_word a 2 (word_at line 1)) (wrong_words (b ∷ []) 2 line) g).1).0
 
 -- a word that is a limit stands for one
 pub limit_small : (k : ℕ) (word : List ℕ) → is_wrong (wrong_limit k word) ≡ false → number_of word ≤ greatest_limit
 unfolding wrong_limit
 limit_small k word e = step (is_numeral 10 word) (ltb greatest_limit (number_of word)) refl e
   where
-    step : (x y : Bool) → ltb greatest_limit (number_of word) ≡ y → is_wrong (cond x (cond y (AboveByte k) Nothing) (NotNumber k)) ≡ false → number_of word ≤ greatest_limit
+    step : (x y : Bool) → ltb greatest_limit (number_of word) ≡ y → is_wrong (cond x (cond y (Err (AboveByte k)) fine) (Err (NotNumber k))) ≡ false → number_of word ≤ greatest_limit
     step false y q g = absurd (false≢true (sym g))
     step true true q g = absurd (false≢true (sym g))
     step true false q g = ltb-false greatest_limit (number_of word) q

@@ -1,14 +1,14 @@
 -- Words by their places: where one ends, where the next starts, and how many there are.
 use Prim.Native.Nat.{ℕ, suc, ◌+◌, ◌-◌, ◌≤◌, ◌<◌}
-use native.Mathlib.Numerals.{add-one}
 use native.Mathlib.Omega.{arith}
-use mathlib.Core.Path.{◌≡◌, sym, ap, ◌∙◌}
-use mathlib.Core.Bool.{Bool, cond}
-use mathlib.Core.List.{List}
-use lib.ListN.{length, take, drop, get_or, drop_of_length-le}
-use lib.Seq.{take-length, drop-drop, drop-cons}
+use mathlib.Core.Path.{◌≡◌, refl, sym, ap, ◌∙◌}
+use mathlib.Core.Bool.{Bool, true, false, cond}
+use mathlib.Core.List.{List, [], ◌∷◌}
+use lib.ListN.{length, take, drop, drop_of_length-le}
+use lib.Seq.{take-length, drop-drop}
 use lib.Dec.{eqb}
-use borrow.Author.Tests.{eq-eqb, ne_eqb}
+use Rattle.std.specs.List.{count_by}
+use Rattle.std.proofs.lemmas.List.Sums.{sum_by-cons}
 use Rattle.prelude.specs.Bytes.{index_of, slice}
 use Rattle.words.specs.Words.{blank, later_words, word_at, many}
 
@@ -43,16 +43,11 @@ word_next s d d' k i l b w =
     let q : k - i ≡ suc (k - (i + 1)) = omega arith in
     ap (λ (x : List ℕ). word_at x (k - (i + 1))) b ∙ ap (word_at d) (sym q) ∙ w
 
--- counting: one character further, which is a blank or not
-module _ (s : List ℕ) (i : ℕ) (h : i < length s) where
-  many_from : many (drop i s) ≡ cond (eqb (get_or s i 0) blank) (suc (many (drop (i + 1) s))) (many (drop (i + 1) s))
-  many_from = rw (add-one i) (ap many (drop-cons s i 0 h))
-
-  pub many_blank : get_or s i 0 ≡ blank → many (drop i s) ≡ suc (many (drop (i + 1) s))
-  many_blank e = many_from ∙ ap (λ (b : Bool). cond b (suc (many (drop (i + 1) s))) (many (drop (i + 1) s))) (eq-eqb (get_or s i 0) blank e)
-
-  pub many_other : (get_or s i 0 ≡ blank → ⊥) → many (drop i s) ≡ many (drop (i + 1) s)
-  many_other e = many_from ∙ ap (λ (b : Bool). cond b (suc (many (drop (i + 1) s))) (many (drop (i + 1) s))) (ne_eqb (get_or s i 0) blank e)
-
-pub many_end : (s : List ℕ) (i : ℕ) → length s ≤ i → many (drop i s) ≡ 1
-many_end s i h = ap many (drop_of_length-le s h)
+-- how many words there are, by the library's count of the blanks
+pub many_counted : (s : List ℕ) → many s ≡ count_by (λ c. eqb c 32) s + 1
+many_counted [] = refl
+many_counted (c ∷ s) = step (eqb c 32) (many_counted s) ∙ ap (λ (n : ℕ). n + 1) (sym (sum_by-cons (λ x. cond (eqb x 32) 1 0) c s))
+  where
+    step : (b : Bool) → many s ≡ count_by (λ x. eqb x 32) s + 1 → cond b (suc (many s)) (many s) ≡ cond b 1 0 + count_by (λ x. eqb x 32) s + 1
+    step true h = omega (arith, h)
+    step false h = omega (arith, h)

@@ -4,15 +4,14 @@
 ghost use Rattle.std.specs.Prelude.{◌≡◌, ◌+◌, ◌*◌, ◌≤◌, ◌<◌, min, length, drop};
 ghost use Rattle.prelude.specs.Tests.{same_list};
 ghost use Rattle.words.specs.Words.{later_words, word_at, many, digit_of, is_numeral, number_of, largest, Decoded};
-ghost use Rattle.words.specs.Complaints.{is_wrong, wrong_bytes, wrong_number, wrong_limit, wrong_word, wrong_words, complaint_of};
+ghost use Rattle.words.specs.Complaints.{wrong_bytes, wrong_number, wrong_limit, wrong_word, wrong_words, complaint_of};
 
 // The greatest limit.
 const GREATEST_LIMIT: usize = 255;
 
 // What is wrong with the words of a question; a word is named by its place, the verb being word 1.
-#[derive(Clone, Copy)]
+#[derive(Clone, Copy, Debug, PartialEq, Eq)]
 pub enum Complaint {
-    Nothing,
     TooFew,
     TooMany,
     NotHexadecimal(usize),
@@ -27,43 +26,27 @@ pub fn word<'a>(line: &'a [u8], k: usize) -> &'a [u8]
     ensures short { length result.now ≤ length line.now }
 {
     let mut from: usize = 0;
-    let mut i: usize = 0;
-    while i < k {
+    for i in 0..k {
         from = behind_word(line, from);
-        i += 1;
     }
     let end = prelude::find_byte(line, from, line.len(), b' ');
     &line[from..end]
 }
 
 // What is wrong with the words of a line, whose kinds behind the verb are given: `b` for bytes, `n` for a number, `l` for a
-// limit, which is a number from 0 to 255.
-pub fn wrong_with(line: &[u8], kinds: &[u8]) -> Complaint
+// limit, which is a number from 0 to 255. Kept: a kind is a byte, since `wrong_with` (docs/CONTRACTS.md) takes each other byte as a number too.
+#[tactic(auto, unfolding(crate::specs::Complaints::complaint_of))]
+pub fn wrong_with(line: &[u8], kinds: &[u8]) -> Result<(), Complaint>
     ensures { result ≡ complaint_of kinds.now line.now }
 {
     let n = count(line);
     if n <= kinds.len() {
-        return Complaint::TooFew;
+        return Err(Complaint::TooFew);
     }
     if kinds.len() < n - 1 {
-        return Complaint::TooMany;
+        return Err(Complaint::TooMany);
     }
     wrong_words(line, kinds)
-}
-
-// Whether it is a complaint at all.
-pub fn is_wrong(c: Complaint) -> bool
-    ensures { result ≡ is_wrong c }
-{
-    match c {
-        Complaint::Nothing => false,
-        Complaint::TooFew => true,
-        Complaint::TooMany => true,
-        Complaint::NotHexadecimal(_) => true,
-        Complaint::OddDigits(_) => true,
-        Complaint::NotNumber(_) => true,
-        Complaint::AboveByte(_) => true,
-    }
 }
 
 // Whether two words are the same.
@@ -78,27 +61,18 @@ pub fn decode(word: &[u8], out: &mut [u8]) -> usize
     requires { length word.now ≤ 2 * length out.old }
     ensures { Decoded word.now out.new result }
 {
-    let mut n: usize = 0;
-    let mut i: usize = 1;
-    while i < word.len() {
-        out[n] = (digit(word[i - 1]) % 16) * 16 + digit(word[i]) % 16;
-        n += 1;
-        i += 2;
+    let many = word.len() / 2;
+    for n in 0..many {
+        out[n] = (digit(word[2 * n]) % 16) * 16 + digit(word[2 * n + 1]) % 16;
     }
-    n
+    many
 }
 
 // The number that a word of decimal digits stands for; one that is too large counts as the largest.
 pub fn number(word: &[u8]) -> usize
     ensures { result ≡ number_of word.now }
 {
-    let mut value: usize = 0;
-    let mut i: usize = 0;
-    while i < word.len() {
-        value = shifted(value, digit(word[i]));
-        i += 1;
-    }
-    value
+    word.iter().fold(0, |value, c| shifted(value, digit(*c)))
 }
 
 // Where what stands behind the first blank at or behind a place starts.
@@ -114,40 +88,21 @@ fn behind_word(line: &[u8], from: usize) -> usize
 fn count(line: &[u8]) -> usize
     ensures { (result ≡ many line.now) × (1 ≤ result) }
 {
-    let mut n: usize = 1;
-    let mut i: usize = 0;
-    while i < line.len() {
-        if line[i] == b' ' {
-            n += 1;
-        }
-        i += 1;
-    }
-    n
+    line.iter().filter(|c| **c == b' ').count() + 1
 }
 
 // The value of a digit; 16 where the character is no digit.
+// Kept: a number and no Option, since `decode` and `number` promise what such a character counts in a word (`digit_of`).
+#[tactic(auto, unfolding(crate::specs::Words::digit_of))]
 fn digit(c: u8) -> u8
     ensures { result ≡ digit_of c }
 {
-    if c < 48 {
-        return 16;
+    match c {
+        b'0'..=b'9' => c - 48,
+        b'A'..=b'F' => c - 55,
+        b'a'..=b'f' => c - 87,
+        _ => 16,
     }
-    if c < 58 {
-        return c - 48;
-    }
-    if c < 65 {
-        return 16;
-    }
-    if c < 71 {
-        return c - 55;
-    }
-    if c < 97 {
-        return 16;
-    }
-    if c < 103 {
-        return c - 87;
-    }
-    16
 }
 
 // One more decimal digit, cut at the largest number.
@@ -165,82 +120,67 @@ fn shifted(value: usize, d: u8) -> usize
 fn numeral(word: &[u8], base: u8) -> bool
     ensures { result ≡ is_numeral base word.now }
 {
-    if word.len() == 0 {
-        return false;
-    }
-    let mut i: usize = 0;
-    while i < word.len() {
-        if base <= digit(word[i]) {
-            return false;
-        }
-        i += 1;
-    }
-    true
+    !word.is_empty() && word.iter().all(|c| digit(*c) < base)
 }
 
 // What is wrong with word k where bytes are asked.
-fn wrong_bytes(k: usize, word: &[u8]) -> Complaint
+#[tactic(auto, unfolding(crate::specs::Complaints::wrong_bytes))]
+fn wrong_bytes(k: usize, word: &[u8]) -> Result<(), Complaint>
     ensures { result ≡ wrong_bytes k word.now }
 {
     if same(word, b"-") {
-        return Complaint::Nothing;
+        return Ok(());
     }
     if !numeral(word, 16) {
-        return Complaint::NotHexadecimal(k);
+        return Err(Complaint::NotHexadecimal(k));
     }
     if word.len() % 2 == 1 {
-        return Complaint::OddDigits(k);
+        return Err(Complaint::OddDigits(k));
     }
-    Complaint::Nothing
+    Ok(())
 }
 
 // What is wrong with word k where a number is asked.
-fn wrong_number(k: usize, word: &[u8]) -> Complaint
+#[tactic(auto, unfolding(crate::specs::Complaints::wrong_number))]
+fn wrong_number(k: usize, word: &[u8]) -> Result<(), Complaint>
     ensures { result ≡ wrong_number k word.now }
 {
-    if numeral(word, 10) {
-        return Complaint::Nothing;
+    if !numeral(word, 10) {
+        return Err(Complaint::NotNumber(k));
     }
-    Complaint::NotNumber(k)
+    Ok(())
 }
 
 // What is wrong with word k where a limit is asked.
-fn wrong_limit(k: usize, word: &[u8]) -> Complaint
+#[tactic(auto, unfolding(crate::specs::Complaints::wrong_limit, crate::specs::Complaints::wrong_number))]
+fn wrong_limit(k: usize, word: &[u8]) -> Result<(), Complaint>
     ensures { result ≡ wrong_limit k word.now }
 {
-    if !numeral(word, 10) {
-        return Complaint::NotNumber(k);
-    }
+    wrong_number(k, word)?;
     if GREATEST_LIMIT < number(word) {
-        return Complaint::AboveByte(k);
+        return Err(Complaint::AboveByte(k));
     }
-    Complaint::Nothing
+    Ok(())
 }
 
 // What is wrong with word k where this kind is asked.
-fn wrong_word(kind: u8, k: usize, word: &[u8]) -> Complaint
+#[tactic(auto, unfolding(crate::specs::Complaints::wrong_word))]
+fn wrong_word(kind: u8, k: usize, word: &[u8]) -> Result<(), Complaint>
     ensures { result ≡ wrong_word kind k word.now }
 {
-    if kind == b'b' {
-        return wrong_bytes(k, word);
+    match kind {
+        b'b' => wrong_bytes(k, word),
+        b'l' => wrong_limit(k, word),
+        _ => wrong_number(k, word),
     }
-    if kind == b'l' {
-        return wrong_limit(k, word);
-    }
-    wrong_number(k, word)
 }
 
 // What is wrong with the first word that is not of its kind.
-fn wrong_words(line: &[u8], kinds: &[u8]) -> Complaint
+fn wrong_words(line: &[u8], kinds: &[u8]) -> Result<(), Complaint>
     ensures { result ≡ wrong_words kinds.now 1 line.now }
 {
-    let mut i: usize = 0;
-    while i < kinds.len() {
-        let wrong = wrong_word(kinds[i], i + 2, word(line, i + 1));
-        if is_wrong(wrong) {
-            return wrong;
-        }
-        i += 1;
+    for i in 0..kinds.len() {
+        wrong_word(kinds[i], i + 2, word(line, i + 1))?;
     }
-    Complaint::Nothing
+    Ok(())
 }

@@ -1,4 +1,7 @@
 -- The sheet of zero bytes: what find does is its row of the worked sheets, and what judge says is a row of the theorem about every accepted sheet.
+use Rattle.prelude.specs.Causes.{refusal}
+use Rattle.std.specs.Prelude.{Result, Ok, Err}
+use Rattle.prelude.specs.declared.refusal.Refusal.{Refusal}
 use Prim.Native.Nat.{ℕ, ◌+◌, ◌-◌, ◌≤◌, ◌<◌}
 use native.Mathlib.Decide.{dec_lt}
 use native.Mathlib.Omega.{arith}
@@ -23,7 +26,6 @@ use Rattle.tables.specs.declared.Judgement.TheVariants as judgements
 use Rattle.judge.specs.Judge.{Says, judgement, stretch_of, table_of, nowhere}
 use Rattle.judge.proofs.Judged.{judgement_says}
 use Rattle.forced.specs.Forcing.{forcing}
-use Rattle.forced.specs.declared.Forcing.TheVariants as forcings
 use Rattle.group.proofs.Replies.{absent}
 use Rattle.answer.specs.Answer.{answer_at, answer, solves}
 use Rattle.answer.specs.Demand.{CandidateSizes}
@@ -34,18 +36,14 @@ use Rattle.find_at.specs.Found.{answered, turned_down as Found·turnedDown, shor
 use Rattle.find_at.specs.FindAt.{candidate_sizes, codes_after_at, tables_after_at}
 use Rattle.find_at.proofs.Outcomes.{not_short, outcome_at_long, outcome_at_wrong}
 use Rattle.find_at.proofs.Buffers.{ExitAt, exit_at}
-use Rattle.sizes.specs.declared.Sizing.{Sizing}
-use Rattle.bundle.specs.Bundle.{most_sheets, parts_from, parts, summed, joined, summing, refusal, gives, bundling}
+use Rattle.bundle.specs.Bundle.{Alone, Left, most_sheets, parts_from, parts, summed, joined, summing, refusal as bundle_refusal, gives, bundling}
 use Rattle.bundle.specs.Written.{bundle_of}
-use Rattle.bundle.specs.declared.Stock.TheVariants.{Left}
 use Rattle.bundle.proofs.Smallest.{smallest_accepted}
 use Rattle.bundle.proofs.Summing.{sharing_within}
 use Rattle.fitted_sheet.specs.FittedSheet.{fitted_sheet}
 use Rattle.fitted.specs.Filing.{Filing, filed, outcome, fits, fitting, buffer_in, buffer_after}
-use Rattle.fitted.specs.declared.Fitting.TheVariants as fittings
 use Rattle.fitted.proofs.Filings.{outcome_short, outcome_long}
 use Rattle.walk.specs.Walk.{Outcome, turned_down, walked, outcome as Walk·outcome, walking, trail_after}
-use Rattle.walk.specs.declared.Walking.TheVariants as walkings
 use Rattle.walk.proofs.Outcomes.{outcome_malformed, result_of_lem, trail_of}
 use Rattle.walk.proofs.Walked.{written_of, fifteen_exactly}
 use Rattle.worked.specs.Worked.{row15, Shown, Shows}
@@ -114,14 +112,14 @@ at_sizes_lem [] cs ts = ((answered_at cs ts).codes, (answered_at cs ts).tables)
 at_sizes_lem (x ∷ z) cs ts = let r = refused_at_lem (x ∷ z) cs ts (λ e. let y : ◌≡◌ {A = ℕ} 0 1 = cc in omega arith) in (r.codes, r.tables)
 
 -- bundle: no part, and one part of zero bytes, whose own sum is 0
-bundled_none : (limit : ℕ) → bundling [] limit ≡ refusal 18 0
+bundled_none : (limit : ℕ) → bundling [] limit ≡ bundle_refusal 18 0
 unfolding bundling parts parts_from
 bundled_none limit = refl
 
 bundled_alone : (limit : ℕ) → bundling (bundle_of ([] ∷ [])) limit ≡ record { sums = replicate most_sheets 0; stock = Left limit }
 unfolding bundling summing parts parts_from bundle_of
 bundled_alone limit =
-    ap (λ (x : Sizing). gives limit (joined 4 x (summed []))) (smallest_accepted [] empty (some empty_entry) nothing_read empty_answer)
+    ap (λ (x : Alone). gives limit (joined 4 x (summed []))) (smallest_accepted [] empty (some empty_entry) nothing_read empty_answer)
     ∙ sharing_within limit (0 ∷ []) (omega arith)
     ∙ ap (λ (left : ℕ). record { sums = replicate most_sheets 0; stock = Left left }) (let same : limit - 0 ≡ limit = omega arith in same)
 
@@ -133,20 +131,20 @@ well_laid_none (x ∷ t) w = let e = w.extent in absurd (omega arith)
 none_well_laid : WellLaid empty []
 none_well_laid = record { sizes = omega arith; size = λ s h. absurd (omega arith); extent = refl; entry = λ f h k l. absurd (omega arith) }
 
-none_fits : (t : List ℕ) → t ≡ [] → judgement [] t ≡ judgements.Fits
-none_fits t e = ap (judgement []) e ∙ (judgement_says [] [] empty nothing_read judgements.Fits).1 says
+none_fits : (t : List ℕ) → t ≡ [] → judgement [] t ≡ (Ok judgements.Fits)
+none_fits t e = ap (judgement []) e ∙ (judgement_says [] [] empty nothing_read (Ok judgements.Fits)).1 says
   where
-    says : Says empty [] judgements.Fits
+    says : Says empty [] (Ok judgements.Fits)
     says = (none_well_laid, (one_candidate _).candidate, (one_candidate _).satisfies)
 
-fits_exactly : (t : List ℕ) → (judgement [] t ≡ judgements.Fits) ↔ (t ≡ [])
-fits_exactly t = (λ e. well_laid_none t ((judgement_says [] t empty nothing_read judgements.Fits).0 e).0, none_fits t)
+fits_exactly : (t : List ℕ) → (judgement [] t ≡ (Ok judgements.Fits)) ↔ (t ≡ [])
+fits_exactly t = (λ e. well_laid_none t ((judgement_says [] t empty nothing_read (Ok judgements.Fits)).0 e).0, none_fits t)
 
-others_refused : (t : List ℕ) → (t ≡ [] → ⊥) → judgement [] t ≡ judgements.Refused 12 0
-others_refused t longer = (judgement_says [] t empty nothing_read (judgements.Refused 12 0)).1 (refl, refl, λ w. longer (well_laid_none t w))
+others_refused : (t : List ℕ) → (t ≡ [] → ⊥) → judgement [] t ≡ Err (refusal 12 0)
+others_refused t longer = (judgement_says [] t empty nothing_read (Err (refusal 12 0))).1 (refl, refl, λ w. longer (well_laid_none t w))
 
 -- nothing has a number below 0
-no_expression : (a b : ℕ) → forcing [] a b ≡ forcings.Refused 13 0
+no_expression : (a b : ℕ) → forcing [] a b ≡ Err (refusal 13 0)
 unfolding forcing
 no_expression a b = rw (nothing_read, le-ltb a 0 (omega arith))
 
@@ -163,11 +161,11 @@ nothing_filed : (room : ℕ) → 2161 ≤ room → outcome [] room ≡ filed emp
 unfolding fitted_sheet
 nothing_filed room h = outcome_long [] empty (some empty_entry) room nothing_read h empty_answer
 
-written : (room : ℕ) → 2161 ≤ room → fitting [] room ≡ fittings.Written 0
+written : (room : ℕ) → 2161 ≤ room → fitting [] room ≡ Ok 0
 unfolding fitting
-written room h = ap fits (nothing_filed room h) ∙ ap (λ (l : List ℕ). fittings.Written (length l)) encode_empty
+written room h = ap fits (nothing_filed room h) ∙ ap (λ (l : List ℕ). Ok (length l)) encode_empty
 
-short : (room : ℕ) → room < 2161 → fitting [] room ≡ fittings.Refused 10 0
+short : (room : ℕ) → room < 2161 → fitting [] room ≡ Err (refusal 10 0)
 unfolding fitting
 short room h = ap fits (outcome_short [] empty room nothing_read h)
 
@@ -180,10 +178,10 @@ untouched out =
     ]
 
 -- no field is there to walk in
-no_walk : (s c : ℕ) (fs : List ℕ) (room start : ℕ) → start + length fs ≤ room → walking [] [] s c fs room start ≡ walkings.Refused 15 0
+no_walk : (s c : ℕ) (fs : List ℕ) (room start : ℕ) → start + length fs ≤ room → walking [] [] s c fs room start ≡ Err (refusal 15 0)
 no_walk s c fs room start h = (fifteen_exactly [] [] s c fs room start empty nothing_read h none_well_laid).1 (λ w. omega (arith, w.sort))
 
-other_tables : (t : List ℕ) (s c : ℕ) (fs : List ℕ) (room start : ℕ) → (t ≡ [] → ⊥) → start + length fs ≤ room → walking [] t s c fs room start ≡ walkings.Refused 12 0
+other_tables : (t : List ℕ) (s c : ℕ) (fs : List ℕ) (room start : ℕ) → (t ≡ [] → ⊥) → start + length fs ≤ room → walking [] t s c fs room start ≡ Err (refusal 12 0)
 other_tables t s c fs room start longer h =
     result_of_lem [] t s c fs room start (turned_down 12 0) (outcome_malformed [] t s c fs room start empty nothing_read h (by (well_laid empty t) refl))
   where

@@ -4,8 +4,8 @@ use Rattle.std.specs.Prelude.{ℕ, ◌≡◌, List, [], ◌∷◌, ◌++◌, tak
 use Rattle.layout.specs.Encode.{packet}
 use Rattle.bundle.specs.Bundle.{refusal, bundling}
 use Rattle.bundle.specs.Written.{bundle_of}
-use Rattle.bundle.specs.declared.Bundling.{Bundling}
-use Rattle.bundle.specs.declared.Stock.TheVariants.{Left}
+use Rattle.bundle.specs.Bundle.{Bundling}
+use Rattle.bundle.specs.Bundle.{Left}
 use Rattle.worked.specs.Worked.{row3, row5, row10, All}
 
 pub record BundleRow : Type 0 where

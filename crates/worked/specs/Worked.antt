@@ -1,17 +1,18 @@
 -- Interface. The worked sheets (docs/FORMAT.md, "Worked sheets") as one table, the printed example and one with fills. A row has the sheet's bytes, the
 -- lengths of the code and table buffers that it asks for, and what "find" is to give back and to write; a refused call writes nothing.
+use Rattle.std.specs.Prelude.{Result, Ok, Err}
+use Rattle.prelude.specs.Causes.{refusal}
+use Rattle.prelude.specs.declared.refusal.Refusal.{Refusal}
 use Rattle.std.specs.Prelude.{ℕ, ◌≤◌, ◌<◌, ◌≡◌, ◌⊎◌, List, [], ◌∷◌, ◌++◌, length}
 use Rattle.layout.specs.Encode.{packet}
 use Rattle.finder.specs.Find.{finding, codes_after, tables_after}
-use Rattle.find_at.specs.declared.Finding.{Finding}
-use Rattle.find_at.specs.declared.Finding.TheVariants.{Found, Refused}
 use Rattle.prelude.specs.Lists.{fronted}
 
 pub record Row : Type 0 where
   pub sheet : List ℕ
   pub code_bytes : ℕ
   pub table_bytes : ℕ
-  pub result : Finding
+  pub result : Result ℕ Refusal
   pub codes : List ℕ
   pub tables : List ℕ
 
@@ -47,7 +48,7 @@ total n = packet 6 (n ∷ [])
 
 abbrev pub refused_row : ℕ → List ℕ → ℕ → ℕ → Row
 refused_row n s code_bytes table_bytes =
-    record { sheet = s; code_bytes = code_bytes; table_bytes = table_bytes; result = Refused n 0; codes = []; tables = [] }
+    record { sheet = s; code_bytes = code_bytes; table_bytes = table_bytes; result = Err (refusal n 0); codes = []; tables = [] }
 
 -- the sheets that several rows share, without their fields and total
 abbrev pub pair : List ℕ
@@ -73,7 +74,7 @@ repeatedly =
 
 -- Tables are written as the sizes, then each name's cells. A row's table buffer has room for them with every size at its ceiling.
 abbrev pub row1 : Row
-row1 = record { sheet = field 1 1 ++ total 1; code_bytes = 0; table_bytes = 1; result = Found 1; codes = []; tables = 1 ∷ [] }
+row1 = record { sheet = field 1 1 ++ total 1; code_bytes = 0; table_bytes = 1; result = Ok 1; codes = []; tables = 1 ∷ [] }
 
 abbrev pub row2 : Row
 row2 = refused_row 11 (field 3 2 ++ total 16) 0 1
@@ -90,7 +91,7 @@ row5 =
       sheet = field 1 2 ++ pair ++ total 16;
       code_bytes = 2;
       table_bytes = 3;
-      result = Found 2;
+      result = Ok 2;
       codes = 0 ∷ 1 ∷ [];
       tables = (2 ∷ []) ++ (0 ∷ []) ++ (1 ∷ []);
     }
@@ -104,7 +105,7 @@ row7 =
       sheet = field 1 3 ++ triple ++ total 16;
       code_bytes = 3;
       table_bytes = 4;
-      result = Found 3;
+      result = Ok 3;
       codes = 0 ∷ 1 ∷ 2 ∷ [];
       tables = (3 ∷ []) ++ (0 ∷ []) ++ (1 ∷ []) ++ (2 ∷ []);
     }
@@ -118,7 +119,7 @@ row9 =
       sheet = field 1 3 ++ images ++ total 16;
       code_bytes = 5;
       table_bytes = 7;
-      result = Found 3;
+      result = Ok 3;
       codes = 0 ∷ 1 ∷ 2 ∷ 0 ∷ 1 ∷ [];
       tables = (3 ∷ []) ++ (0 ∷ []) ++ (1 ∷ []) ++ (2 ∷ []) ++ (0 ∷ 1 ∷ 2 ∷ []);
     }
@@ -129,7 +130,7 @@ row10 =
       sheet = field 1 16 ++ name 0 ++ event ++ constant 0 ++ apply 1 0 ++ apply 1 1 ++ same 0 2 ++ differ 0 1 ++ total 16;
       code_bytes = 3;
       table_bytes = 18;
-      result = Found 2;
+      result = Ok 2;
       codes = 0 ∷ 1 ∷ 0 ∷ [];
       tables = (2 ∷ []) ++ (0 ∷ []) ++ (1 ∷ 0 ∷ []);
     }
@@ -146,17 +147,17 @@ row13 =
       sheet = field 1 2 ++ field 1 2 ++ two_pairs ++ total 4;
       code_bytes = 4;
       table_bytes = 6;
-      result = Found 4;
+      result = Ok 4;
       codes = 0 ∷ 1 ∷ 0 ∷ 1 ∷ [];
       tables = (2 ∷ 2 ∷ []) ++ (0 ∷ []) ++ (1 ∷ []) ++ (0 ∷ []) ++ (1 ∷ []);
     }
 
 abbrev pub row14 : Row
-row14 = record { sheet = field 2 2 ++ event ++ total 16; code_bytes = 0; table_bytes = 3; result = Found 2; codes = []; tables = (2 ∷ []) ++ (0 ∷ 1 ∷ []) }
+row14 = record { sheet = field 2 2 ++ event ++ total 16; code_bytes = 0; table_bytes = 3; result = Ok 2; codes = []; tables = (2 ∷ []) ++ (0 ∷ 1 ∷ []) }
 
 -- a sheet of zero bytes: no field has a size, and no buffer is asked for
 abbrev pub row15 : Row
-row15 = record { sheet = []; code_bytes = 0; table_bytes = 0; result = Found 0; codes = []; tables = [] }
+row15 = record { sheet = []; code_bytes = 0; table_bytes = 0; result = Ok 0; codes = []; tables = [] }
 
 -- fills (docs/FORMAT.md, "Which answer"): the names x, office, f, h, k, y and g, the expressions x, k(x, x) and office
 abbrev pub call_office : List ℕ
@@ -171,7 +172,7 @@ filled =
       sheet = field 2 2 ++ field 2 2 ++ call_office ++ fill 2 2 ++ fill 3 2 ++ fill 4 2 ++ fill 5 2 ++ total 16;
       code_bytes = 3;
       table_bytes = 15;
-      result = Found 4;
+      result = Ok 4;
       codes = 0 ∷ 0 ∷ 1 ∷ [];
       tables = (2 ∷ 2 ∷ []) ++ (0 ∷ []) ++ (1 ∷ []) ++ (0 ∷ 1 ∷ []) ++ (1 ∷ 1 ∷ []) ++ (0 ∷ 1 ∷ 1 ∷ 1 ∷ []) ++ (1 ∷ []) ++ (0 ∷ 0 ∷ []);
     }
@@ -198,7 +199,7 @@ printed =
           ∷ [];
       code_bytes = 5;
       table_bytes = 7;
-      result = Found 3;
+      result = Ok 3;
       codes = 0 ∷ 1 ∷ 2 ∷ 0 ∷ 1 ∷ [];
       tables = (3 ∷ []) ++ (0 ∷ []) ++ (1 ∷ []) ++ (2 ∷ []) ++ (0 ∷ 1 ∷ 2 ∷ []);
     }
@@ -216,7 +217,7 @@ pub record Shown (r : Row) (cs ts : List ℕ) : Type 0 where
 pub record Shows (r : Row) : Type 0 where
   pub shown : (cs ts : List ℕ) → r.code_bytes ≤ length cs → r.table_bytes ≤ length ts → Shown r cs ts
   -- a shorter buffer is refused, so that the row asks for no more than the sheet needs
-  pub short : (cs ts : List ℕ) → (length cs < r.code_bytes) ⊎ (length ts < r.table_bytes) → finding r.sheet (length cs) (length ts) ≡ Refused 10 0
+  pub short : (cs ts : List ℕ) → (length cs < r.code_bytes) ⊎ (length ts < r.table_bytes) → finding r.sheet (length cs) (length ts) ≡ Err (refusal 10 0)
 
 abbrev pub All : {A : Type 0} → (A → Type 0) → List A → Type 0
 All p [] = Unit

@@ -52,19 +52,18 @@ fn unforced(p: Parsed, fill: u8, symbol: usize, row: usize, col: usize) -> u8
 }
 
 // What a symbol is filled with: the code of its fill's term, 0 where it has no fill.
+// Kept: a code, not an Option of one: `filled_with` says 0 there, and the edit `unforced_one` changes it.
 fn fill_code(p: Parsed, codes: [u8; BYTE_VALUES], symbol: usize) -> u8
     requires { p.fills ≤ most_fills }
     ensures { (sh : Sheet) → Packs sh p → result ≡ filled_with sh (at codes) symbol }
 {
-    let mut k: usize = 0;
-    while k < p.fills {
+    for k in 0..p.fills {
         if wide(p.filled[k]) == symbol {
             let term = p.filler[k];
             let i = wide(term);
             let code = codes[i];
             return code;
         }
-        k += 1;
     }
     0u8
 }
@@ -75,15 +74,14 @@ fn unforced_row(p: Parsed, fill: u8, symbol: usize, row: usize, columns: usize) 
     ensures { (sh : Sheet) (size c : ℕ → ℕ) → Packs sh p → symbol < length sh.symbols → fill ≡ filled_with sh c symbol → (col : ℕ) → col < columns → at result col ≡ unforced_at sh size c symbol row col }
 {
     let mut cells = [0u8; MOST_CODES];
-    let mut col: usize = 0;
-    while col < columns {
+    for col in 0..columns {
         cells[col] = unforced(p, fill, symbol, row, col);
-        col += 1;
     }
     cells
 }
 
 // A symbol's table before any term is put in.
+// Kept: rows and table apart, one loop each, and for the rows and columns that there are alone.
 fn unforced_table(
     p: Parsed,
     fill: u8,
@@ -95,11 +93,9 @@ fn unforced_table(
     ensures { (sh : Sheet) (size c : ℕ → ℕ) → Packs sh p → symbol < length sh.symbols → fill ≡ filled_with sh c symbol → (row col : ℕ) → row < rows → col < columns → cell result row col ≡ unforced_at sh size c symbol row col }
 {
     let mut t = [[0u8; MOST_CODES]; MOST_CODES];
-    let mut row: usize = 0;
-    while row < rows {
+    for row in 0..rows {
         let cells = unforced_row(p, fill, symbol, row, columns);
         t[row] = cells;
-        row += 1;
     }
     t
 }
@@ -118,9 +114,7 @@ fn symbol_table(
 {
     let fill = fill_code(p, codes, symbol);
     let mut t = unforced_table(p, fill, symbol, rows, columns);
-    let mut i: usize = p.terms;
-    while 0 < i {
-        i -= 1;
+    for i in (0..p.terms).rev() {
         if wide(p.symbol[i]) == symbol {
             let a = wide(p.arg0[i]);
             let b = wide(p.arg1[i]);
@@ -138,14 +132,12 @@ fn write_tables(out: &mut [u8], p: Parsed, sizes: [u8; MOST_SORTS], codes: [u8; 
 {
     let offsets = tables::extents(p, sizes);
     let n = p.symbols;
-    let mut f: usize = 0;
-    while f < n {
+    for f in 0..n {
         let rows = tables::width_of(sizes, wide(p.param0[f]));
         let columns = tables::width_of(sizes, wide(p.param1[f]));
         let t = symbol_table(p, codes, f, rows, columns);
         let start = offsets[f];
         let end = offsets[f + 1];
         tables::write_table(&mut out[start..end], t, rows, columns);
-        f += 1;
     }
 }

@@ -10,7 +10,7 @@ use Rattle.records.specs.Step.{step_at, behind, stepped}
 use Rattle.records.specs.declared.Step.TheVariants.{Record}
 use Rattle.records.specs.declared.Stepped.{Stepped}
 use Rattle.records.proofs.Steps.{step_uncut}
-use Rattle.bundle.proofs.Located.{reached_start, reached_end, reached_cut, reached_other, reached_ninth, reached_next}
+use Rattle.bundle.proofs.Located.{reached_start, reached_end, reached_none, reached_cut, reached_other, reached_ninth, reached_next}
 use Rattle.bundle.proofs.parts_of.Goals as goal
 use Rattle.bundle.proofs.parts_of.Goals.{then-kind-ne-SHEET_KIND-via-then-kind-ne-SHEET_KIND, then-kind-ne-SHEET_KIND-via-else-kind-ne-SHEET_KIND+then-many-eq-MOST_SHEETS}
 
@@ -61,5 +61,13 @@ loop-at-preserved c =
       length-set l.ends l.many _ ∙ l.invariant.2,
     )
 
+pub returns-then-many-eq0 : goal.returns-then-many-eq0
+returns-then-many-eq0 c =
+    let l = c.loop-at in
+    reached_none c.args.s.now l.at l.many l.starts l.ends l.invariant.0 c.loop-at-test.false c.if-many-eq0.true
+
 pub returns : goal.returns
-returns c = let l = c.loop-at in reached_end c.args.s.now l.at l.many l.starts l.ends l.invariant.0 c.loop-at-test.false
+returns c =
+    let l = c.loop-at in
+    let found = reached_end c.args.s.now l.at l.many l.starts l.ends l.invariant.0 c.loop-at-test.false in
+    (omega (arith, found.many), found)

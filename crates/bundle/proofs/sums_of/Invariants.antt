@@ -1,5 +1,4 @@
 -- `bundle::sums_of` meets its contract.
-use Prim.Native.Nat.{◌-◌}
 use mathlib.Core.Path.{◌≡◌}
 use lib.ListN.{length}
 use Rattle.bundle.specs.Bundle.{most_sheets}
@@ -9,8 +8,5 @@ use Rattle.bundle.proofs.sums_of.Given as goal
 
 abbrev pub invariant-loop-i : goal.invariant-loop-i
 invariant-loop-i l = ((k : Inside l.s l.found) → Added l.s k.parts l.i l.sums) × (length l.sums ≡ most_sheets) × Inside l.s l.found
-
-abbrev pub decreases-loop-i : goal.decreases-loop-i
-decreases-loop-i l = l.found.many - l.i
 
 -- the sheet at hand starts and ends within the bytes

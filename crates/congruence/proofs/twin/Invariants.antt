@@ -1,5 +1,5 @@
 -- `congruence::twin` meets its contract. No term below i has the key of j.
-use Prim.Native.Nat.{ℕ, ◌≤◌, ◌<◌, ◌-◌}
+use Prim.Native.Nat.{ℕ, ◌<◌}
 use mathlib.Core.Path.{◌≡◌}
 use Rattle.prelude.specs.Lists.{at}
 use Rattle.layout.specs.Packed.{view}
@@ -7,7 +7,4 @@ use Rattle.congruence.specs.Parts.{key}
 use Rattle.congruence.proofs.twin.Given as goal
 
 abbrev pub invariant-loop-i : goal.invariant-loop-i
-invariant-loop-i l = (l.i ≤ l.j) × ((k : ℕ) → k < l.i → key (view l.p) (at l.labels) k ≡ key (view l.p) (at l.labels) l.j → ⊥)
-
-abbrev pub decreases-loop-i : goal.decreases-loop-i
-decreases-loop-i l = l.j - l.i
+invariant-loop-i l = (k : ℕ) → k < l.i → key (view l.p) (at l.labels) k ≡ key (view l.p) (at l.labels) l.j → ⊥

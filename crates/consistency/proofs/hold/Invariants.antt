@@ -1,5 +1,5 @@
 -- `consistency::hold` meets its contract: the statements passed hold, and one that does not ends the loop.
-use Prim.Native.Nat.{ℕ, ◌≤◌, ◌<◌, ◌-◌}
+use Prim.Native.Nat.{ℕ, ◌≤◌, ◌<◌}
 use mathlib.Core.Path.{◌≡◌}
 use mathlib.Core.Bool.{true}
 use lib.Dec.{eqb}
@@ -9,6 +9,3 @@ use Rattle.consistency.proofs.hold.Given as goal
 
 abbrev pub invariant-loop-k : goal.invariant-loop-k
 invariant-loop-k l = (l.k ≤ l.p.literals) × ((n : ℕ) → n < l.k → agree (eqb (at l.p.equal n) 1) (eqb (at l.codes (at l.p.left n)) (at l.codes (at l.p.right n))) ≡ true)
-
-abbrev pub decreases-loop-k : goal.decreases-loop-k
-decreases-loop-k l = l.p.literals - l.k

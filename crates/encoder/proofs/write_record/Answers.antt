@@ -1,46 +1,34 @@
--- `encoder::write_record` meets its contract. The first k of the seven bytes are pasted over what stood there.
-use Prim.Native.Nat.{ℕ, ◌+◌}
-use native.Mathlib.Numerals.{add-one}
+-- `encoder::write_record` meets its contract: the stretch is the front of the seven bytes.
 use native.Mathlib.Omega.{arith}
-use mathlib.Core.Path.{◌≡◌, refl}
-use mathlib.Core.List.{[]}
-use lib.ListN.{length-set}
-use lib.Seq.{paste-zero, paste-suc}
-use Rattle.encoder.proofs.Placing.{wrote_paste}
+use mathlib.Core.Path.{◌≡◌, sym, ◌∙◌}
+use Prim.Native.Nat.{◌+◌, ◌≤◌}
+use mathlib.Core.List.{[], ◌∷◌}
+use lib.ListN.{take}
+use Rattle.std.proofs.lemmas.List.{length-take-le}
+use Rattle.tables.proofs.Slices.{copied_whole}
+use Rattle.encoder.specs.Parts.{record_bytes}
+use Rattle.encoder.proofs.Placing.{wrote_stretch}
 use Rattle.encoder.proofs.ShortRecords.{there_most, record_length, record_front}
 use Rattle.encoder.proofs.write_record.Goals as goal
 
-pub payload_length-len-requires : goal.payload_length-len-requires
-payload_length-len-requires c = tt
+pub slice_bounds-bytes-end : goal.slice_bounds-bytes-end
+slice_bounds-bytes-end c = omega (arith, there_most c.args.r.b1 c.args.r.b2)
 
-pub wide-n-requires : goal.wide-n-requires
-wide-n-requires c = tt
+pub slice_bounds-copy-end : goal.slice_bounds-copy-end
+slice_bounds-copy-end c =
+    let short : c.wide-n.result + 4 ≤ 7 = omega (arith, there_most c.args.r.b1 c.args.r.b2) in
+    sym (length-take-le (c.wide-n.result + 4) _ short)
 
-pub loop-k-init : goal.loop-k-init
-loop-k-init c =
-    let m = c.args in
-    let long = record_length m.kind m.b0 m.b1 m.b2 in
-    let most = there_most m.b1 m.b2 in
-    (omega arith, refl, paste-zero m.out.now m.start [], omega arith, omega arith)
-
-pub loop-k-preserved : goal.loop-k-preserved
-loop-k-preserved c =
-    let m = c.args in
-    let l = c.loop-k in (
-      omega arith,
-      simp length-set l.invariant.1,
-      rw (l.invariant.2, add-one l.k) (paste-suc m.out.now m.start _ l.k 0 (omega arith) (omega arith)),
-      l.invariant.3,
-      l.invariant.4,
-    )
+pub slice_bounds-copy-end-2 : goal.slice_bounds-copy-end-2
+slice_bounds-copy-end-2 c = omega (arith, record_length c.args.r.kind c.args.r.b0 c.args.r.b1 c.args.r.b2)
 
 pub returns : goal.returns
 returns c =
-    let m = c.args in
-    let l = c.loop-k in
-    let n : ℕ = c.wide-n.result + 4 in
-    let all : l.k ≡ n = omega arith in
-    let payload = c.payload_length-len in
-    let front = record_front m.kind m.b0 m.b1 m.b2 payload.result payload.ensures in
-    wrote_paste m.out.now _ _ l.out m.start n _
-    (rw c.wide-n.ensures.0 front) l.invariant.4 l.invariant.3 (rw all at l.invariant.2) refl
+    let r = c.args.r in
+    let len = c.payload_length-len.result in
+    let n = c.wide-n.result + 4 in
+    let bytes = len ∷ 0 ∷ r.kind ∷ 0 ∷ r.b0 ∷ r.b1 ∷ r.b2 ∷ [] in
+    let short : n ≤ 7 = omega (arith, there_most r.b1 r.b2) in
+    let front : take n bytes ≡ record_bytes r = rw c.wide-n.ensures.0 (record_front r.kind r.b0 r.b1 r.b2 len c.payload_length-len.ensures) in
+    wrote_stretch c.args.out.now _ _ c.args.start _ (omega (arith, record_length r.kind r.b0 r.b1 r.b2)) (omega (arith, record_length r.kind r.b0 r.b1 r.b2))
+    (c.copy.ensures.1 ∙ copied_whole (take n bytes) _ (omega (arith, length-take-le n bytes short)) ∙ front)

@@ -14,22 +14,18 @@ use Rattle.filings.proofs.fitted_question.Goals as goal
 abbrev answered : List ℕ → List ℕ
 answered l = fitted_line (outcome (bytes_at l 1) (number_at l 2))
 
-pub returns-then-is_wrong : goal.returns-then-is_wrong
+pub returns-in-Err : goal.returns-in-Err
 unfolding fitted_reply
-returns-then-is_wrong c =
+returns-in-Err c =
     let l = c.args.line.now in
-    let wrong = c.wrong_with-wrong in
-    let test = c.is_wrong in
-    complains (ascii "bn") l (answered l) wrong.result test.result wrong.ensures test.ensures c.if-is_wrong.true c.complaint_line.ensures
+    complains (ascii "bn") l (answered l) c.in-Err.wrong c.in-Err.ensures c.complaint_line.ensures
 
 pub returns : goal.returns
 unfolding fitted_reply
 returns c =
     let l = c.args.line.now in
-    let wrong = c.wrong_with-wrong in
-    let test = c.is_wrong in
     let sheet = bytes_at_lem l 1 c.decode-n.ensures c.word.ensures.word in
     let room = c.number-room.ensures ∙ ap number_of c.word-2.ensures.word in
-    answers (ascii "bn") l (answered l) wrong.result test.result wrong.ensures test.ensures c.if-is_wrong.false
+    answers (ascii "bn") l (answered l) c.in_default.ensures
     (ap fitted_line (ap₂ outcome sheet room))
     c.fitted_with.ensures

@@ -1,12 +1,13 @@
 -- `find::print_answer` meets its contract.
 use native.Mathlib.Omega.{arith}
+use mathlib.Core.Path.{sym}
+use lib.Seq.{length-take-le}
 use Rattle.find.proofs.Stretches.{sorts_there, limited, stretches}
-use borrow.Author.Rules.{rules}
 use Rattle.find.proofs.print_answer.Goals as goal
 
-pub print_sorts-requires : goal.print_sorts-requires
-print_sorts-requires g c =
-    (sorts_there c.args.p c.args.buffer.now c.requires.printable, search rules)
+pub slice_bounds-print_sorts-end : goal.slice_bounds-print_sorts-end
+slice_bounds-print_sorts-end g c =
+    sym (length-take-le c.args.p.sorts c.args.buffer.now (sorts_there c.args.p c.args.buffer.now c.requires.printable))
 
 pub sizes_of-sizes-requires : goal.sizes_of-sizes-requires
 sizes_of-sizes-requires g c =

@@ -1,7 +1,6 @@
 -- `find_at::are_allowed` meets its contract.
 use mathlib.Core.Path.{◌∙◌}
 use Rattle.find_at.proofs.Sizes.{other_number, right_number}
-use borrow.Author.Rules.{rules}
 use Rattle.find_at.proofs.are_allowed.Goals as goal
 
 pub returns-then-sizes-n : goal.returns-then-sizes-n

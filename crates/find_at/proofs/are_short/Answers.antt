@@ -1,6 +1,5 @@
 -- `find_at::are_short` meets its contract.
 use Rattle.find_at.proofs.Searching.{short_codes, short_tables}
-use borrow.Author.Rules.{rules}
 use Rattle.find_at.proofs.are_short.Goals as goal
 
 pub returns-then-codes-p : goal.returns-then-codes-p

@@ -1,22 +1,20 @@
 -- `find_at::find_at` meets its contract: a refusal is the parser's, and what was read goes on to `find_at_parsed`.
-use Rattle.sheet.specs.Verdict.{ReadFrom}
-use Rattle.sheet.proofs.Verdicts.{number_refused, read_from_lem}
-use Rattle.find_at.proofs.Outcomes.{outcome_at_refused}
-use Rattle.find_at.proofs.Buffers.{refusal_finds_at}
-use borrow.Author.Rules.{rules}
+use Rattle.std.proofs.lemmas.Result.{err_from_is_err_and}
+use Rattle.sheet.proofs.Verdicts.{read_from_lem}
+use Rattle.find_at.proofs.Buffers.{parse_refused}
 use Rattle.find_at.proofs.find_at.Goals as goal
 
-pub returns-then-number-ne0 : goal.returns-then-number-ne0
-returns-then-number-ne0 c =
-    let parsed = c.parse-parsing in
-    let f = refusal_finds_at c.args.sheet.now c.args.sizes.now c.args.codes.now c.args.tables.now _ _ (outcome_at_refused c.args.sheet.now c.args.sizes.now _ _ _ _ (number_refused c.args.sheet.now parsed.result parsed.ensures c.if-number-ne0.true).reads) in
-    record { result = f.result; codes = f.codes; tables = f.tables }
+pub returns-in_err-p : goal.returns-in_err-p
+returns-in_err-p c =
+    let e = err_from_is_err_and c.from_residual.result c.from_residual.ensures.1 in
+    let f = parse_refused c.args.sheet.now c.args.sizes.now c.args.codes.now c.args.tables.now c.in_err-p.field-0.0 c.in_err-p.ensures in
+    rw (e.1, e.2) (record { result = f.result; codes = f.codes; tables = f.tables })
 
 pub find_at_parsed-requires : goal.find_at_parsed-requires
-find_at_parsed-requires c = read_from_lem c.args.sheet.now c.parse-parsing.result c.parse-parsing.ensures c.if-number-ne0.false
+find_at_parsed-requires c = read_from_lem c.args.sheet.now c.in_ok-p.p c.in_ok-p.ensures
 
 pub returns : goal.returns
 unfolding read_from_lem
 returns c =
-    let f = c.find_at_parsed.ensures (read_from_lem c.args.sheet.now c.parse-parsing.result c.parse-parsing.ensures c.if-number-ne0.false) in
+    let f = c.find_at_parsed.ensures (read_from_lem c.args.sheet.now c.in_ok-p.p c.in_ok-p.ensures) in
     record { result = f.result; codes = f.codes; tables = f.tables }

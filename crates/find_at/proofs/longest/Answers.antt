@@ -1,6 +1,5 @@
 -- `find_at::longest` meets its contract.
 use Rattle.find_at.proofs.Searching.{ceilings_extent}
-use borrow.Author.Rules.{rules}
 use Rattle.find_at.proofs.longest.Goals as goal
 
 pub returns : goal.returns

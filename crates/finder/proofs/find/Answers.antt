@@ -1,21 +1,20 @@
 -- `finder::find` meets its contract: a refusal is the parser's, and what was read goes on to `in_turn`.
-use Rattle.sheet.specs.Verdict.{ReadFrom}
-use Rattle.sheet.proofs.Verdicts.{number_refused, read_from_lem}
-use Rattle.finder.proofs.Outcomes.{outcome_refused}
-use Rattle.finder.proofs.Buffers.{refusal_finds}
+use Rattle.std.proofs.lemmas.Result.{err_from_is_err_and}
+use Rattle.sheet.proofs.Verdicts.{read_from_lem}
+use Rattle.finder.proofs.Buffers.{parse_refused}
 use Rattle.finder.proofs.find.Goals as goal
 
-pub returns-then-number-ne0 : goal.returns-then-number-ne0
-returns-then-number-ne0 c =
-    let parsed = c.parse-parsing in
-    let f = refusal_finds c.args.sheet.now c.args.codes.now c.args.tables.now _ _ (outcome_refused c.args.sheet.now _ _ _ _ (number_refused c.args.sheet.now parsed.result parsed.ensures c.if-number-ne0.true).reads) in
-    record { result = f.result; codes = f.codes; tables = f.tables }
+pub returns-in_err-p : goal.returns-in_err-p
+returns-in_err-p c =
+    let e = err_from_is_err_and c.from_residual.result c.from_residual.ensures.1 in
+    let f = parse_refused c.args.sheet.now c.args.codes.now c.args.tables.now c.in_err-p.field-0.0 c.in_err-p.ensures in
+    rw (e.1, e.2) (record { result = f.result; codes = f.codes; tables = f.tables })
 
 pub in_turn-requires : goal.in_turn-requires
-in_turn-requires c = read_from_lem c.args.sheet.now c.parse-parsing.result c.parse-parsing.ensures c.if-number-ne0.false
+in_turn-requires c = read_from_lem c.args.sheet.now c.in_ok-p.p c.in_ok-p.ensures
 
 pub returns : goal.returns
 unfolding read_from_lem
 returns c =
-    let f = c.in_turn.ensures (read_from_lem c.args.sheet.now c.parse-parsing.result c.parse-parsing.ensures c.if-number-ne0.false) in
+    let f = c.in_turn.ensures (read_from_lem c.args.sheet.now c.in_ok-p.p c.in_ok-p.ensures) in
     record { result = f.result; codes = f.codes; tables = f.tables }

@@ -10,6 +10,7 @@ use Rattle.tables.specs.Parts.{Packs}
 use Rattle.find_at.specs.Found.{short}
 use lib.ListN.{length, length-replicate, replicate}
 use lib.Seq.{length-take-le}
+use Rattle.std.proofs.lemmas.Result.{err_from_is_err_and}
 use Rattle.sheet.specs.Verdict.{ReadFrom}
 use Rattle.tables.proofs.Whole.{packs_limited}
 use Rattle.judge.proofs.Questions.{read_packs}
@@ -17,7 +18,6 @@ use Rattle.finder.specs.Turn.{InTurn}
 use Rattle.finder.proofs.Outcomes.{outcome_tested}
 use Rattle.finder.proofs.Buffers.{refusal_finds}
 use Rattle.finder.proofs.Turn.{find_in_turn, parsed_enough, turn_refused, turn_found}
-use borrow.Author.Rules.{rules}
 use Rattle.finder.proofs.in_turn.Goals as goal
 
 abbrev zs : List ℕ
@@ -38,26 +38,30 @@ are_short-requires c = packs_limited c.requires.sheet c.args.p (read_packs c.arg
 
 pub returns-then-are_short : goal.returns-then-are_short
 returns-then-are_short c q =
-    refusal_finds q.bytes c.args.codes.now c.args.tables.now 10 0
-    (outcome_tested q.bytes q.sheet _ _ q.reads (sym (c.are_short.ensures q.sheet (read_packs c.args.p q)) ∙ c.if-are_short.true))
+    rw c.at.ensures
+    (refusal_finds q.bytes c.args.codes.now c.args.tables.now 10 0
+    (outcome_tested q.bytes q.sheet _ _ q.reads (sym (c.are_short.ensures q.sheet (read_packs c.args.p q)) ∙ c.if-are_short.true)))
 
-pub returns-in-Refused : goal.returns-in-Refused
-returns-in-Refused c q =
-    turn_refused q.bytes c.args.p.sorts zs c.args.codes.now c.args.tables.now
-    (turn c.args.p c.args.codes.now c.args.tables.now c.are_short.result q c.are_short.ensures c.if-are_short.false) _ _
-    (sym (c.sizes_parsed-sized.ensures q).result ∙ c.in-Refused.is)
+pub returns-in_err-_sum : goal.returns-in_err-_sum
+returns-in_err-_sum c q =
+    let e = err_from_is_err_and c.from_residual.result c.from_residual.ensures.1 in
+    rw (e.1, e.2)
+    (turn_refused q.bytes c.args.p.sorts zs c.args.codes.now c.args.tables.now
+    (turn c.args.p c.args.codes.now c.args.tables.now c.are_short.result q c.are_short.ensures c.if-are_short.false) c.in_err-_sum.field-0.0
+    (sym (c.in_err-_sum.ensures q).result))
 
-pub returns-in-Sized : goal.returns-in-Sized
-returns-in-Sized c q =
+pub returns : goal.returns
+returns c q =
     let found = c.find_at_parsed.ensures q in
+    let written = c.in_ok-_sum.ensures q in
     turn_found q.bytes c.args.p.sorts zs c.args.codes.now c.args.tables.now
     (turn c.args.p c.args.codes.now c.args.tables.now c.are_short.result q c.are_short.ensures c.if-are_short.false) _
-    (sym (c.sizes_parsed-sized.ensures q).result ∙ c.in-Sized.is) _ _ _ (rw (← (c.sizes_parsed-sized.ensures q).buffer) found)
+    (sym written.result) _ _ _ (rw (← written.buffer) found)
 
 pub slice_bounds-sizes-end : goal.slice_bounds-sizes-end
-slice_bounds-sizes-end c = few c.args.p c.requires c.sizes_parsed-sized.new.out (omega (arith, c.sizes_parsed-sized.auto.out, length-replicate {A = ℕ} 8 0))
+slice_bounds-sizes-end c = few c.args.p c.requires c.sizes_parsed.new.out (omega (arith, c.sizes_parsed.auto.out, length-replicate {A = ℕ} 8 0))
 
 pub slice_bounds-find_at_parsed-end : goal.slice_bounds-find_at_parsed-end
 slice_bounds-find_at_parsed-end c =
-    sym (length-take-le c.args.p.sorts c.sizes_parsed-sized.new.out
-    (few c.args.p c.requires c.sizes_parsed-sized.new.out (omega (arith, c.sizes_parsed-sized.auto.out, length-replicate {A = ℕ} 8 0))))
+    sym (length-take-le c.args.p.sorts c.sizes_parsed.new.out
+    (few c.args.p c.requires c.sizes_parsed.new.out (omega (arith, c.sizes_parsed.auto.out, length-replicate {A = ℕ} 8 0))))

@@ -14,23 +14,19 @@ use Rattle.findings.proofs.find_question.Goals as goal
 abbrev answered : List ℕ → List ℕ
 answered l = find_line (outcome (bytes_at l 1) (number_at l 2) (number_at l 3))
 
-pub returns-then-is_wrong : goal.returns-then-is_wrong
+pub returns-in-Err : goal.returns-in-Err
 unfolding find_reply
-returns-then-is_wrong c =
+returns-in-Err c =
     let l = c.args.line.now in
-    let wrong = c.wrong_with-wrong in
-    let test = c.is_wrong in
-    complains (ascii "bnn") l (answered l) wrong.result test.result wrong.ensures test.ensures c.if-is_wrong.true c.complaint_line.ensures
+    complains (ascii "bnn") l (answered l) c.in-Err.wrong c.in-Err.ensures c.complaint_line.ensures
 
 pub returns : goal.returns
 unfolding find_reply
 returns c =
     let l = c.args.line.now in
-    let wrong = c.wrong_with-wrong in
-    let test = c.is_wrong in
     let s = bytes_at_lem l 1 c.decode-n.ensures c.word.ensures.word in
     let codes = c.number-codes.ensures ∙ ap number_of c.word-2.ensures.word in
     let tables = c.number-tables.ensures ∙ ap number_of c.word-3.ensures.word in
-    answers (ascii "bnn") l (answered l) wrong.result test.result wrong.ensures test.ensures c.if-is_wrong.false
+    answers (ascii "bnn") l (answered l) c.in_default.ensures
     (ap find_line (ap (λ (x : List ℕ). outcome x c.number-codes.result c.number-tables.result) s ∙ ap₂ (outcome (bytes_at l 1)) codes tables))
     c.find_with.ensures

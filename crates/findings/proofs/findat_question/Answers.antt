@@ -14,25 +14,21 @@ use Rattle.findings.proofs.findat_question.Goals as goal
 abbrev answered : List ℕ → List ℕ
 answered l = find_line (outcome_at (bytes_at l 1) (bytes_at l 2) (number_at l 3) (number_at l 4))
 
-pub returns-then-is_wrong : goal.returns-then-is_wrong
+pub returns-in-Err : goal.returns-in-Err
 unfolding findat_reply
-returns-then-is_wrong c =
+returns-in-Err c =
     let l = c.args.line.now in
-    let wrong = c.wrong_with-wrong in
-    let test = c.is_wrong in
-    complains (ascii "bbnn") l (answered l) wrong.result test.result wrong.ensures test.ensures c.if-is_wrong.true c.complaint_line.ensures
+    complains (ascii "bbnn") l (answered l) c.in-Err.wrong c.in-Err.ensures c.complaint_line.ensures
 
 pub returns : goal.returns
 unfolding findat_reply
 returns c =
     let l = c.args.line.now in
-    let wrong = c.wrong_with-wrong in
-    let test = c.is_wrong in
     let s = bytes_at_lem l 1 c.decode-n.ensures c.word.ensures.word in
     let z = bytes_at_lem l 2 c.decode-m.ensures c.word-2.ensures.word in
     let codes = c.number-codes.ensures ∙ ap number_of c.word-3.ensures.word in
     let tables = c.number-tables.ensures ∙ ap number_of c.word-4.ensures.word in
-    answers (ascii "bbnn") l (answered l) wrong.result test.result wrong.ensures test.ensures c.if-is_wrong.false
+    answers (ascii "bbnn") l (answered l) c.in_default.ensures
     (ap find_line
     (ap₂ (λ (x y : List ℕ). outcome_at x y c.number-codes.result c.number-tables.result) s z
     ∙ ap₂ (outcome_at (bytes_at l 1) (bytes_at l 2)) codes tables))

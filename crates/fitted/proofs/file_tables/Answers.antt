@@ -66,8 +66,9 @@ are_passed-requires c =
 
 pub returns-then-are_passed : goal.returns-then-are_passed
 returns-then-are_passed c a =
-    passed_files a.sheet a.entry c.args.out.now
-    (sym c.if-are_passed.true ∙ passed c.args.p c.args.sum c.args.tables.now a c.sizes_of-sizes.result c.sizes_of-sizes.ensures c.extents-offsets.result c.extents-offsets.ensures c.are_passed.result c.are_passed.ensures)
+    rw c.at.ensures
+    (passed_files a.sheet a.entry c.args.out.now
+    (sym c.if-are_passed.true ∙ passed c.args.p c.args.sum c.args.tables.now a c.sizes_of-sizes.result c.sizes_of-sizes.ensures c.extents-offsets.result c.extents-offsets.ensures c.are_passed.result c.are_passed.ensures))
 
 pub fitted_sheet-new-requires : goal.fitted_sheet-new-requires
 fitted_sheet-new-requires c =

@@ -1,5 +1,6 @@
 -- `judge::judge_parsed` meets its contract. Each return is one law of proofs/Replies.antt.
-use mathlib.Core.Path.{sym, ◌∙◌}
+use mathlib.Core.Path.{ap, sym, ◌∙◌}
+use Rattle.std.specs.Prelude.{Ok, Err}
 use Rattle.prelude.specs.Lists.{at}
 use Rattle.tables.proofs.Whole.{laying, copied_sizes, in_bounds_same}
 use Rattle.judge.proofs.Replies.{judged_refused, judged_out, judged_statements}
@@ -9,7 +10,7 @@ pub returns-then-not-well_laid : goal.returns-then-not-well_laid
 returns-then-not-well_laid c =
     let s = c.args in
     let r = c.well_laid in
-    λ sh k. judged_refused sh s.t.now (sym (r.ensures sh k) ∙ c.if-not-well_laid.true)
+    λ sh k. ap Err c.at.ensures ∙ judged_refused sh s.t.now (sym (r.ensures sh k) ∙ c.if-not-well_laid.true)
 
 pub returns-then-not-in_bounds : goal.returns-then-not-in_bounds
 returns-then-not-in_bounds c =
@@ -31,7 +32,7 @@ returns c =
     let d = c.codes_of-codes in
     λ sh k.
     let y = laying sh s.p z.result o.result s.t.now k z.ensures o.ensures in
-    c.first_broken.ensures sh k
+    ap Ok (c.first_broken.ensures sh k)
     ∙ judged_statements sh s.t.now (at d.result) (sym (w.ensures sh k) ∙ c.if-not-well_laid.false)
     (in_bounds_same sh (at s.t.now) (at z.result) (copied_sizes sh s.p z.result s.t.now k z.ensures) ∙ sym (r.ensures sh k) ∙ c.if-not-in_bounds.false)
     (d.ensures sh y)

@@ -12,4 +12,5 @@ pub returns-then-w-v : goal.returns-then-w-v
 returns-then-w-v c =
     let w = c.args.w in
     let v = count_trailing_zeros 16 (65535 - w) in
-    λ h. record { only = λ u hu b. bit_only v u h hu (λ g. b (rw (c.if-w-v.true, shl_one v 16 h) g)) }
+    let h = c.if-v-lt-MOST_CODES.true in
+    (h, record { only = λ u hu b. bit_only v u h hu (λ g. b (rw (c.if-w-v.true, shl_one v 16 h) g)) })

@@ -1,5 +1,5 @@
 -- `least_sizes::greatest_sizes` meets its contract: the ceilings passed are clipped.
-use Prim.Native.Nat.{◌+◌, ◌≤◌, ◌-◌}
+use Prim.Native.Nat.{◌+◌}
 use mathlib.Core.Path.{◌≡◌}
 use Rattle.layout.specs.Packed.{view}
 use Rattle.prelude.specs.Lists.{at, sum_to}
@@ -7,7 +7,4 @@ use Rattle.least_sizes.proofs.Regions.{Clipped}
 use Rattle.least_sizes.proofs.greatest_sizes.Given as goal
 
 abbrev pub invariant-loop-s : goal.invariant-loop-s
-invariant-loop-s l = (l.s ≤ l.p.sorts) × ((l.slack + sum_to l.p.sorts (at l.p.floor) ≡ l.p.total) × Clipped (view l.p) l.slack l.high l.s)
-
-abbrev pub decreases-loop-s : goal.decreases-loop-s
-decreases-loop-s l = l.p.sorts - l.s
+invariant-loop-s l = ((l.slack + sum_to l.p.sorts (at l.p.floor) ≡ l.p.total) × Clipped (view l.p) l.slack l.high l.s)

@@ -8,6 +8,6 @@ pairs-returns t c =
     let p = c.args in
     let x = c.reach-x.ensures in
     let y = c.reach-y.ensures in (
-      pairs_counted _ _ _ _ p.labels.now p.masks.now p.list.now c.arguments-firsts.result c.arguments-seconds.result _ _ _ c.requires.n_le_most_terms.0 c.requires.one_symbol c.arguments-firsts.ensures c.arguments-seconds.ensures x.0 y.0,
+      pairs_counted _ p.known.now.labels p.known.now.masks p.list.now _ _ _ _ c.requires.one_symbol (rw c.as_slice.ensures c.arguments-firsts.ensures) (rw c.as_slice-2.ensures c.arguments-seconds.ensures) x.0 y.0,
       table_most _ _ x.1 y.1,
     )

@@ -1,11 +1,15 @@
 -- `pigeonhole::strike_crowd` meets its contract.
-use native.Mathlib.Omega.{arith}
-use Rattle.pigeonhole.proofs.Counting.{crowd_symbol, crowd_none}
+use mathlib.Core.Path.{sym, subst}
+use Rattle.pigeonhole.specs.Parts.{Gathered}
+use Rattle.pigeonhole.proofs.Counting.{crowd_none}
 use Rattle.pigeonhole.proofs.strike_crowd.Goals as goal
-
-pub pairs-requires : goal.pairs-requires
-pairs-requires c = let g = c.gather-g.ensures in let few = g.few in record { n_le_most_terms = (omega arith, omega arith); one_symbol = crowd_symbol g }
 
 pub returns-then-pairs-k : goal.returns-then-pairs-k
 returns-then-pairs-k c =
-    record { kept = λ x k v. absurd (crowd_none _ _ _ _ _ _ _ _ _ _ _ _ x c.gather-g.ensures c.pairs.ensures.0 c.if-pairs-k.true k) }
+    let s = c.strike.ensures in
+    let crowd = subst (Gathered _ _ _ _) (sym c.as_slice-chosen.ensures) c.gather-crowd.ensures in
+    record {
+      struck = record { kept = λ x k v. absurd (crowd_none _ _ _ _ c.as_slice-chosen.result.now _ x crowd c.pairs.ensures.0 c.if-pairs-k.true k) };
+      labels = s.labels;
+      marks = s.marks;
+    }

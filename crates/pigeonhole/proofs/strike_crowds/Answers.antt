@@ -1,18 +1,9 @@
 -- `pigeonhole::strike_crowds` meets its contract.
-use Rattle.knowledge.proofs.Keeping.{stay, step, chain}
-use native.Mathlib.Omega.{arith}
+use Rattle.knowledge.proofs.Keeping.{struck_step, struck_chain}
 use Rattle.pigeonhole.proofs.strike_crowds.Goals as goal
 
-pub loop-i-init : goal.loop-i-init
-loop-i-init c = (omega arith, omega arith, stay)
-
 pub loop-i-preserved : goal.loop-i-preserved
-loop-i-preserved c = (
-  omega arith,
-  omega arith,
-  chain c.loop-i.invariant.2
-      (step (λ x k v. record { lawful = k.lawful; knows = record { labels = k.knows.labels; masks = v; marks = k.knows.marks } }) c.meet_symbol-news.ensures),
-)
-
-pub returns : goal.returns
-returns c = c.loop-i.invariant.2
+loop-i-preserved c =
+    let i = c.loop-i.invariant in
+    struck_chain i
+    (struck_step (λ x k v. record { lawful = k.lawful; knows = record { labels = rw i.labels k.knows.labels; masks = v; marks = rw i.marks k.knows.marks } }) c.meet_symbol-news.ensures)

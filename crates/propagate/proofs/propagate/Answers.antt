@@ -1,24 +1,31 @@
 -- `propagate::propagate` meets its contract: what is known after the rules is true of every consistent extension, so a conflict leaves none.
 use Prim.Native.Nat.{ℕ}
-use borrow.Author.Tests.{ltb-true}
+use native.Mathlib.Omega.{arith}
 use Rattle.prelude.specs.Lists.{at}
 use Rattle.logic.specs.Problem.{Consistent, Extends}
 use Rattle.layout.specs.Packed.{view}
 use Rattle.knowledge.specs.Knows.{Knows}
-use Rattle.propagate.proofs.Knowing.{known}
 use Rattle.propagate.proofs.propagate.Goals as goal
+use Rattle.propagate.proofs.propagate.Goals.{After-follow}
+
+-- what is known after the rules
+followed : (c : After-follow) (a : ℕ → ℕ) → Consistent (view c.args.p) (at c.args.sizes) a → Extends (view c.args.p) (at c.args.decided) a → Knows c.follow.new.known a
+followed c a k x =
+    let n = c.lesser.ensures in
+    c.follow.ensures.kept a (record {
+      lawful = record { small = c.requires.fit_mask a k; congruent = λ i j hi hj. k.congruent i j (omega arith) (omega arith) };
+      range = λ i h. k.range i (omega arith);
+      fixed = λ i h d. x i (omega arith) d;
+    }) (c.requires.knowing a k x)
+
+pub returns-in-Some : goal.returns-in-Some
+returns-in-Some c =
+    λ a k x.
+    let end = followed ((goal.at.returns-in-Some c).After-follow) a k x in
+    c.in-Some.ensures.1.means a (record { small = c.requires.fit_mask a k; masks = end.masks; marks = end.marks })
 
 pub returns : goal.returns
 returns c =
-    let p = c.args.p in
-    let end : (a : ℕ → ℕ) → Consistent (view p) (at c.args.sizes) a → Extends (view p) (at c.args.decided) a → Knows c.rounds.new.labels c.rounds.new.masks c.rounds.new.marks a =
-    λ a k x. known p c.args.sizes c.args.decided c.clamped-n.result c.clamped-n.ensures.0 a k x (c.requires.fit_mask a k) (c.requires.knowing a k x) c.start_masks.ensures c.rounds.ensures in
-    record {
-      dead = λ e a k x. (c.conflict-g.ensures (ltb-true _ _ e)).means a (record { small = c.requires.fit_mask a k; masks = (end a k x).masks; marks = (end a k x).marks });
-      knowing = λ a k x.
-          record {
-            labels = (end a k x).labels;
-            masks = c.spread-struck.ensures.means a (record { labels = (end a k x).labels; masks = (end a k x).masks });
-            marks = (end a k x).marks;
-          };
-    }
+    λ a k x.
+    let end = followed ((goal.at.returns c).After-follow) a k x in
+    record { labels = end.labels; masks = c.spread-known.ensures.means a (record { labels = end.labels; masks = end.masks }); marks = end.marks }

@@ -10,16 +10,16 @@ use Rattle.questions.specs.Questions.{forced_reply, bytes_at, number_at}
 use Rattle.questions.proofs.Asking.{bytes_at_lem, complains, answers}
 use Rattle.questions.proofs.forced_question.Goals as goal
 
-pub returns-then-is_wrong : goal.returns-then-is_wrong
+pub returns-in-Err : goal.returns-in-Err
 unfolding forced_reply
-returns-then-is_wrong c = let m = c in complains (ascii "bnn") m.args.line.now (forcing_line (forcing (bytes_at m.args.line.now 1) (number_at m.args.line.now 2) (number_at m.args.line.now 3))) c.wrong_with-wrong.result c.is_wrong.result c.wrong_with-wrong.ensures c.is_wrong.ensures c.if-is_wrong.true c.complaint_line.ensures
+returns-in-Err c = complains (ascii "bnn") c.args.line.now (forcing_line (forcing (bytes_at c.args.line.now 1) (number_at c.args.line.now 2) (number_at c.args.line.now 3))) c.in-Err.wrong c.in-Err.ensures c.complaint_line.ensures
 
 pub returns : goal.returns
 unfolding forced_reply
-returns c = let m = c in let l = m.args.line.now in
+returns c = let l = c.args.line.now in
     let s = bytes_at_lem l 1 c.decode-n.ensures c.word.ensures.word in
     let a = c.number-a.ensures ∙ ap number_of c.word-2.ensures.word in
     let b = c.number-b.ensures ∙ ap number_of c.word-3.ensures.word in
-    answers (ascii "bnn") m.args.line.now (forcing_line (forcing (bytes_at m.args.line.now 1) (number_at m.args.line.now 2) (number_at m.args.line.now 3))) c.wrong_with-wrong.result c.is_wrong.result c.wrong_with-wrong.ensures c.is_wrong.ensures c.if-is_wrong.false
+    answers (ascii "bnn") c.args.line.now (forcing_line (forcing (bytes_at c.args.line.now 1) (number_at c.args.line.now 2) (number_at c.args.line.now 3))) c.in_default.ensures
     (ap forcing_line (c.forced.ensures ∙ ap (λ (x : List ℕ). forcing x c.number-a.result c.number-b.result) s ∙ ap₂ (forcing (bytes_at l 1)) a b))
     c.forcing_line.ensures

@@ -10,25 +10,19 @@ use Rattle.questions.specs.Questions.{group_reply, bytes_at, number_at}
 use Rattle.questions.proofs.Asking.{bytes_at_lem, complains, answers}
 use Rattle.questions.proofs.group_question.Goals as goal
 
-pub returns-then-is_wrong : goal.returns-then-is_wrong
+pub returns-in-Err : goal.returns-in-Err
 unfolding group_reply
-returns-then-is_wrong c =
+returns-in-Err c =
     let l = c.args.line.now in
-    let wrong = c.wrong_with-wrong in
-    let test = c.is_wrong in
-    complains (ascii "bn") l (grouping_line (grouping (bytes_at l 1) (number_at l 2))) wrong.result test.result wrong.ensures test.ensures
-    c.if-is_wrong.true
+    complains (ascii "bn") l (grouping_line (grouping (bytes_at l 1) (number_at l 2))) c.in-Err.wrong c.in-Err.ensures
     c.complaint_line.ensures
 
 pub returns : goal.returns
 unfolding group_reply
 returns c =
     let l = c.args.line.now in
-    let wrong = c.wrong_with-wrong in
-    let test = c.is_wrong in
     let s = bytes_at_lem l 1 c.decode-n.ensures c.word.ensures.word in
     let e = c.number-e.ensures ∙ ap number_of c.word-2.ensures.word in
-    answers (ascii "bn") l (grouping_line (grouping (bytes_at l 1) (number_at l 2))) wrong.result test.result wrong.ensures test.ensures
-    c.if-is_wrong.false
+    answers (ascii "bn") l (grouping_line (grouping (bytes_at l 1) (number_at l 2))) c.in_default.ensures
     (ap grouping_line (c.group.ensures ∙ ap (λ (x : List ℕ). grouping x c.number-e.result) s ∙ ap (grouping (bytes_at l 1)) e))
     c.grouping_line.ensures

@@ -10,14 +10,14 @@ use Rattle.questions.specs.Questions.{read_reply, bytes_at}
 use Rattle.questions.proofs.Asking.{bytes_at_lem, complains, answers}
 use Rattle.questions.proofs.read_question.Goals as goal
 
-pub returns-then-is_wrong : goal.returns-then-is_wrong
+pub returns-in-Err : goal.returns-in-Err
 unfolding read_reply
-returns-then-is_wrong c = let m = c in complains (ascii "b") m.args.line.now (verdict_line (verdict (reading (bytes_at m.args.line.now 1)))) c.wrong_with-wrong.result c.is_wrong.result c.wrong_with-wrong.ensures c.is_wrong.ensures c.if-is_wrong.true c.complaint_line.ensures
+returns-in-Err c = complains (ascii "b") c.args.line.now (verdict_line (verdict (reading (bytes_at c.args.line.now 1)))) c.in-Err.wrong c.in-Err.ensures c.complaint_line.ensures
 
 pub returns : goal.returns
 unfolding read_reply
-returns c = let m = c in let l = m.args.line.now in
+returns c = let l = c.args.line.now in
     let s = bytes_at_lem l 1 c.decode-n.ensures c.word.ensures.word in
-    answers (ascii "b") m.args.line.now (verdict_line (verdict (reading (bytes_at m.args.line.now 1)))) c.wrong_with-wrong.result c.is_wrong.result c.wrong_with-wrong.ensures c.is_wrong.ensures c.if-is_wrong.false
+    answers (ascii "b") c.args.line.now (verdict_line (verdict (reading (bytes_at c.args.line.now 1)))) c.in_default.ensures
     (ap verdict_line (c.read.ensures ∙ ap (λ (x : List ℕ). verdict (reading x)) s))
     c.verdict_line.ensures

@@ -9,16 +9,16 @@ use Rattle.questions.specs.Questions.{table_reply, bytes_at, number_at, stretch_
 use Rattle.questions.proofs.Asking.{bytes_at_lem, complains, answers, stretch_shown}
 use Rattle.questions.proofs.table_question.Goals as goal
 
-pub returns-then-is_wrong : goal.returns-then-is_wrong
+pub returns-in-Err : goal.returns-in-Err
 unfolding table_reply
-returns-then-is_wrong c = let m = c in complains (ascii "bbn") m.args.line.now (stretch_reply (table_of (bytes_at m.args.line.now 1) (bytes_at m.args.line.now 2) (number_at m.args.line.now 3))) c.wrong_with-wrong.result c.is_wrong.result c.wrong_with-wrong.ensures c.is_wrong.ensures c.if-is_wrong.true c.complaint_line.ensures
+returns-in-Err c = complains (ascii "bbn") c.args.line.now (stretch_reply (table_of (bytes_at c.args.line.now 1) (bytes_at c.args.line.now 2) (number_at c.args.line.now 3))) c.in-Err.wrong c.in-Err.ensures c.complaint_line.ensures
 
 pub returns : goal.returns
 unfolding table_reply
-returns c = let m = c in let l = m.args.line.now in
+returns c = let l = c.args.line.now in
     let s = bytes_at_lem l 1 c.decode-n.ensures c.word.ensures.word in
     let t = bytes_at_lem l 2 c.decode-m.ensures c.word-2.ensures.word in
     let a = c.number-name.ensures ∙ ap number_of c.word-3.ensures.word in
-    answers (ascii "bbn") m.args.line.now (stretch_reply (table_of (bytes_at m.args.line.now 1) (bytes_at m.args.line.now 2) (number_at m.args.line.now 3))) c.wrong_with-wrong.result c.is_wrong.result c.wrong_with-wrong.ensures c.is_wrong.ensures c.if-is_wrong.false
+    answers (ascii "bbn") c.args.line.now (stretch_reply (table_of (bytes_at c.args.line.now 1) (bytes_at c.args.line.now 2) (number_at c.args.line.now 3))) c.in_default.ensures
     (stretch_shown c.table_span-span.result.start c.table_span-span.result.end _ _ c.table_span-span.ensures.0 (ap₂ (λ (x y : List ℕ). table_of x y c.number-name.result) s t ∙ ap (table_of (bytes_at l 1) (bytes_at l 2)) a))
     c.stretch_line.ensures

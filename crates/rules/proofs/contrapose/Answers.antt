@@ -1,6 +1,6 @@
 -- `rules::contrapose` meets its contract: were the pair left equal, the results would be.
 use mathlib.Core.Path.{ap, ◌∙◌, sym}
-use Rattle.knowledge.proofs.Keeping.{step}
+use Rattle.knowledge.proofs.Keeping.{marked_step}
 use Rattle.rules.proofs.Results.{results_differ}
 use Rattle.rules.proofs.contrapose.Goals as goal
 
@@ -10,11 +10,11 @@ returns-then-x-y c =
     let one = c.wide in
     let two = c.wide-2 in
     let differ =
-    results_differ p.n p.symbol.now p.arg0.now p.arg1.now p.labels.now p.masks.now p.marks.now p.i p.j c.requires.0 c.requires.1
-    c.if-n-j.false c.if-f-g.false one.result two.result one.ensures.0 two.ensures.0 (c.apart.ensures (c.if-not-apart.false)) in
-    step (λ a s m e. differ a s m
-    (sym (ap a c.wide-then-x-y.ensures.0 ∙ c.argument-a.ensures.means a s.labels) ∙ e ∙ ap a c.wide-then-x-y-2.ensures.0 ∙ c.argument-b.ensures.means a s.labels)
-    (sym (c.argument-x.ensures.means a s.labels) ∙ ap a c.if-x-y.true ∙ c.argument-y.ensures.means a s.labels)) c.mark.ensures
+    results_differ p.terms p.known.now.labels p.known.now.masks p.known.now.marks p.i p.j c.requires
+    c.if-terms-j.false c.if-f-g.false one.result two.result one.ensures.0 two.ensures.0 (c.apart.ensures (c.if-not-apart.false)) in
+    marked_step (λ a s m e. differ a s m
+    (sym (ap a c.wide-then-x-y.ensures.0 ∙ c.label-a.ensures.means a s.labels) ∙ e ∙ ap a c.wide-then-x-y-2.ensures.0 ∙ c.label-b.ensures.means a s.labels)
+    (sym (c.label-x.ensures.means a s.labels) ∙ ap a c.if-x-y.true ∙ c.label-y.ensures.means a s.labels)) c.mark.ensures
 
 pub returns-then-a-b : goal.returns-then-a-b
 returns-then-a-b c =
@@ -22,8 +22,8 @@ returns-then-a-b c =
     let one = c.wide in
     let two = c.wide-2 in
     let differ =
-    results_differ p.n p.symbol.now p.arg0.now p.arg1.now p.labels.now p.masks.now p.marks.now p.i p.j c.requires.0 c.requires.1
-    c.if-n-j.false c.if-f-g.false one.result two.result one.ensures.0 two.ensures.0 (c.apart.ensures (c.if-not-apart.false)) in
-    step (λ a s m e. differ a s m
-    (sym (c.argument-a.ensures.means a s.labels) ∙ ap a c.if-a-b.true ∙ c.argument-b.ensures.means a s.labels)
-    (sym (ap a c.wide-then-a-b.ensures.0 ∙ c.argument-x.ensures.means a s.labels) ∙ e ∙ ap a c.wide-then-a-b-2.ensures.0 ∙ c.argument-y.ensures.means a s.labels)) c.mark-then-a-b.ensures
+    results_differ p.terms p.known.now.labels p.known.now.masks p.known.now.marks p.i p.j c.requires
+    c.if-terms-j.false c.if-f-g.false one.result two.result one.ensures.0 two.ensures.0 (c.apart.ensures (c.if-not-apart.false)) in
+    marked_step (λ a s m e. differ a s m
+    (sym (c.label-a.ensures.means a s.labels) ∙ ap a c.if-a-b.true ∙ c.label-b.ensures.means a s.labels)
+    (sym (ap a c.wide-then-a-b.ensures.0 ∙ c.label-x.ensures.means a s.labels) ∙ e ∙ ap a c.wide-then-a-b-2.ensures.0 ∙ c.label-y.ensures.means a s.labels)) c.mark-then-a-b.ensures

@@ -1,13 +1,6 @@
 -- `rules::join_congruent` meets its contract; the table of keys only chooses which pairs to try.
-use Rattle.knowledge.proofs.Keeping.{stay, chain}
-use native.Mathlib.Omega.{arith}
+use Rattle.knowledge.proofs.Keeping.{chain}
 use Rattle.rules.proofs.join_congruent.Goals as goal
 
-pub loop-i-init : goal.loop-i-init
-loop-i-init c = (omega arith, omega arith, stay)
-
 pub loop-i-preserved : goal.loop-i-preserved
-loop-i-preserved c = (omega arith, omega arith, chain c.loop-i.invariant.2 c.meet_key-news.ensures)
-
-pub returns : goal.returns
-returns c = c.loop-i.invariant.2
+loop-i-preserved c = chain c.loop-i.invariant c.meet_key-news.ensures

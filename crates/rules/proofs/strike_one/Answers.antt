@@ -1,6 +1,6 @@
 -- `rules::strike_one` meets its contract: with the code v the term would not differ from g.
 use mathlib.Core.Path.{◌∙◌, sym}
-use Rattle.knowledge.proofs.Keeping.{step}
+use Rattle.knowledge.proofs.Keeping.{struck_step}
 use Rattle.knowledge.proofs.Bits.{bit_pow, shl_one}
 use native.Mathlib.Omega.{arith}
 use Rattle.rules.proofs.strike_one.Goals as goal
@@ -8,4 +8,4 @@ use Rattle.rules.proofs.strike_one.Goals as goal
 pub returns-then-marked : goal.returns-then-marked
 returns-then-marked c =
     let p = c.args in
-    step (λ a g w b. (c.marked.ensures c.if-marked.true).means a g.marks (g.code ∙ sym (bit_pow p.v (a p.k) (rw (shl_one p.v 16 (omega arith)) at b)))) c.strike.ensures
+    struck_step (λ a g w b. (c.marked.ensures c.if-marked.true).means a g.marks (g.code ∙ sym (bit_pow p.v (a p.k) (rw (shl_one p.v 16 (omega arith)) at b)))) c.strike.ensures

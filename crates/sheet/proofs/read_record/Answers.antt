@@ -7,19 +7,18 @@ use Rattle.records.specs.Record.{cut, kind_at, payload_at}
 use mathlib.Core.List.{List}
 use Rattle.records.specs.Step.{step_at, behind, stepped}
 use Rattle.records.specs.declared.Step.TheVariants.{Record}
-use Rattle.layout.specs.Parts.{fault_at}
 use Rattle.records.specs.declared.Stepped.{Stepped}
 use Rattle.records.proofs.Steps.{Whole, step_uncut, step_whole}
-use Rattle.sheet.proofs.Parser.{took_refused, took_at}
+use Rattle.sheet.specs.Parts.{taken}
+use Rattle.sheet.proofs.Parser.{took_at}
 use Rattle.layout.proofs.Records.{fault_cut}
 use Rattle.sheet.proofs.read_record.Goals as goal
 
 pub returns-in_default : goal.returns-in_default
 returns-in_default c k =
     let a = c.args in
-    took_refused (fault_at a.s.now a.at k.sheet) (behind a.at (step_at a.s.now a.at))
-    (kind_at a.s.now a.at) (payload_at a.s.now a.at) k.sheet (record { number = 2; next = c.record_at-found.result.behind; sheet = a.p })
-    (fault_cut a.s.now a.at k.sheet c.requires.at_in_bounds (is_cut (cut a.s.now a.at) refl)) (λ z. omega arith)
+    ap (λ (n : ℕ). taken n (behind a.at (step_at a.s.now a.at)) (kind_at a.s.now a.at) (payload_at a.s.now a.at) k.sheet)
+    (fault_cut a.s.now a.at k.sheet c.requires.at_in_bounds (is_cut (cut a.s.now a.at) refl))
   where
     is_cut : (b : Bool) → cut c.args.s.now c.args.at ≡ b → b ≡ true
     is_cut true e = refl

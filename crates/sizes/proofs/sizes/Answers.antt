@@ -1,19 +1,20 @@
 -- `sizes::sizes` meets its contract: a refusal is the parser's, and what was read goes on to `sizes_parsed`.
-use Rattle.sheet.proofs.Verdicts.{number_refused, read_from_lem}
-use Rattle.sizes.proofs.Outcomes.{outcome_refused, refusal_sizes}
+use Rattle.std.proofs.lemmas.Result.{err_from_is_err_and}
+use Rattle.sheet.proofs.Verdicts.{read_from_lem}
+use Rattle.sizes.proofs.Outcomes.{parse_refused}
 use Rattle.sizes.proofs.sizes.Goals as goal
 
-pub returns-then-number-ne0 : goal.returns-then-number-ne0
-returns-then-number-ne0 c =
-    let parsed = c.parse-parsing in
-    let f = refusal_sizes c.args.sheet.now c.args.out.now _ _ (outcome_refused c.args.sheet.now _ _ _ (number_refused c.args.sheet.now parsed.result parsed.ensures c.if-number-ne0.true).reads) in
-    record { result = f.result; buffer = f.buffer }
+pub returns-in_err-p : goal.returns-in_err-p
+returns-in_err-p c =
+    let e = err_from_is_err_and c.from_residual.result c.from_residual.ensures.1 in
+    let f = parse_refused c.args.sheet.now c.args.out.now c.in_err-p.field-0.0 c.in_err-p.ensures in
+    rw (e.1, e.2) (record { result = f.result; buffer = f.buffer })
 
 pub sizes_parsed-requires : goal.sizes_parsed-requires
-sizes_parsed-requires c = read_from_lem c.args.sheet.now c.parse-parsing.result c.parse-parsing.ensures c.if-number-ne0.false
+sizes_parsed-requires c = read_from_lem c.args.sheet.now c.in_ok-p.p c.in_ok-p.ensures
 
 pub returns : goal.returns
 unfolding read_from_lem
 returns c =
-    let f = c.sizes_parsed.ensures (read_from_lem c.args.sheet.now c.parse-parsing.result c.parse-parsing.ensures c.if-number-ne0.false) in
+    let f = c.sizes_parsed.ensures (read_from_lem c.args.sheet.now c.in_ok-p.p c.in_ok-p.ensures) in
     record { result = f.result; buffer = f.buffer }

@@ -1,6 +1,5 @@
 -- The measure of `solve::descend` is the number of undecided codes; the loop's invariant says that every code passed that is worth trying is
 -- dead.
-use Prim.Native.Nat.{◌-◌, ◌≤◌}
 use Rattle.layout.specs.Packed.{view}
 use Rattle.prelude.specs.Lists.{at}
 use Rattle.logic.proofs.Decided.{openings}
@@ -11,7 +10,4 @@ abbrev pub decreases-descend : goal.decreases-descend
 decreases-descend l = openings l.decided
 
 abbrev pub invariant-loop-v : goal.invariant-loop-v
-invariant-loop-v l = (l.v ≤ l.size) × Tried (view l.p) (at l.sizes) l.decided l.term l.size l.mask l.first l.flags l.v
-
-abbrev pub decreases-loop-v : goal.decreases-loop-v
-decreases-loop-v l = l.size - l.v
+invariant-loop-v l = Tried (view l.p) (at l.sizes) l.decided l.plan l.v

@@ -1,15 +1,11 @@
 -- `solve::branch` meets its contract.
 use mathlib.Core.Path.{refl, ap, ◌∙◌}
 use Rattle.prelude.specs.Lists.{at}
-use Rattle.solve.proofs.Branching.{branch_planned}
+use Rattle.solve.proofs.Branching.{branches}
 use Rattle.solve.proofs.branch.Goals as goal
 
-pub returns : goal.returns
-returns c =
-    record {
-      planned =
-          branch_planned _ _ _ _ _ _ c.args.masks _ c.requires.searchable.sorted c.requires.small_sizes c.requires.never_struck c.requires.term_lt_terms.0 c.requires.term_lt_terms.1
-          (c.wide-size.ensures.0 ∙ ap (at c.args.sizes) c.wide-s.ensures.0)
-          c.fresh-first.ensures c.codes_in_use-flags.ensures;
-      dead_value = (refl, refl, refl);
-    }
+pub returns-clause-branches : goal.returns-clause-branches
+returns-clause-branches c =
+    branches _ _ _ c.requires.searchable.sorted c.requires.small_sizes c.args.masks.now c.requires.never_struck _ c.requires.pending
+    (c.wide-size.ensures.0 ∙ ap (at c.args.sizes) c.wide-s.ensures.0)
+    refl c.fresh.ensures c.codes_in_use-used.ensures

@@ -1,9 +1,9 @@
--- `solve::choose` is safe and ends.
-use Prim.Native.Nat.{◌≤◌, ◌-◌}
+-- `solve::choose` meets its contract: the best term so far has not been decided.
+use Rattle.std.specs.Prelude.{IfSome}
+use Rattle.layout.specs.Packed.{view}
+use Rattle.prelude.specs.Lists.{at}
+use Rattle.solve.specs.Parts.{Pending}
 use Rattle.solve.proofs.choose.Given as goal
 
 abbrev pub invariant-loop-i : goal.invariant-loop-i
-invariant-loop-i l = l.i ≤ l.p.terms
-
-abbrev pub decreases-loop-i : goal.decreases-loop-i
-decreases-loop-i l = l.p.terms - l.i
+invariant-loop-i l = IfSome l.best (Pending (view l.p) (at l.decided))

@@ -1,13 +1,6 @@
 -- `starting::join_same` meets its contract.
-use Rattle.knowledge.proofs.Keeping.{stay, chain}
-use native.Mathlib.Omega.{arith}
+use Rattle.knowledge.proofs.Keeping.{chain}
 use Rattle.starting.proofs.join_same.Goals as goal
 
-pub loop-k-init : goal.loop-k-init
-loop-k-init c = (omega arith, omega arith, stay)
-
 pub loop-k-preserved : goal.loop-k-preserved
-loop-k-preserved c = (omega arith, omega arith, chain c.loop-k.invariant.2 c.join_sides.ensures)
-
-pub returns : goal.returns
-returns c = c.loop-k.invariant.2
+loop-k-preserved c = chain c.loop-k.invariant c.join_sides.ensures

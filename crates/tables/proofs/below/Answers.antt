@@ -1,27 +1,16 @@
--- `tables::below` meets its contract. Every entry so far is below the bound; the first that is not makes the test false.
-use Prim.Native.Nat.{◌+◌}
-use native.Mathlib.Omega.{arith}
-use mathlib.Core.Path.{◌≡◌, sym}
-use borrow.Author.Tests.{le-ltb, lt-ltb}
+-- `tables::below` meets its contract: what the test says of each place of the stretch.
+use Rattle.std.proofs.Common.{rules, arith, ℕ, ◌+◌, ◌-◌, ◌<◌, ◌≤◌, ◌≡◌, ltb, true}
+use Rattle.std.specs.Prelude.{IsTrue, ◌↔◌}
+use Rattle.std.proofs.iter.runs.Sources.{ranges}
 use Rattle.prelude.specs.Lists.{at}
-use Rattle.prelude.proofs.Tests.{false_every, every_more}
+use Rattle.tables.proofs.Slices.{every_below}
 use Rattle.tables.proofs.below.Goals as goal
-
-pub returns-then-bound-x : goal.returns-then-bound-x
-returns-then-bound-x c =
-    let s = c.args in
-    let l = c.loop-k in
-    sym (false_every s.n _ l.k (omega arith) (le-ltb (at s.t.now (s.from + l.k)) s.bound (omega arith)))
-
-pub loop-k-preserved : goal.loop-k-preserved
-loop-k-preserved c =
-    let s = c.args in
-    let l = c.loop-k in
-    (omega arith, every_more l.k _ l.invariant.1 (lt-ltb (at s.t.now (s.from + l.k)) s.bound (omega arith)))
 
 pub returns : goal.returns
 returns c =
-    let s = c.args in
-    let l = c.loop-k in
-    let e : l.k ≡ s.n = omega arith in
-    sym (rw e at l.invariant.1)
+    let p = λ (k : ℕ). ltb (at c.args.t.now (c.args.from + k)) c.args.bound in
+    let e : IsTrue c.all.result ↔ ((i : ℕ) → c.args.from ≤ i → i < c.args.from + c.args.n → ltb (at c.args.t.now i) c.args.bound ≡ true) = search (rules, ranges) in
+    every_below c.all.result p c.args.n (
+      λ y k s. e.0 y (c.args.from + k) (omega arith) (omega arith),
+      λ f. e.1 (λ i low high. let j : c.args.from + (i - c.args.from) ≡ i = omega arith in rw j at (f (i - c.args.from) (omega arith))),
+    )

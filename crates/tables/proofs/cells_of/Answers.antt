@@ -1,5 +1,4 @@
 -- `tables::cells_of` meets its contract. Rows times columns are the cells, by `cells_packed`.
-use native.Mathlib.Omega.{arith}
 use mathlib.Core.Path.{ap, ap₂, ◌∙◌}
 use Prim.Native.Nat.{◌*◌}
 use Rattle.prelude.specs.Lists.{at}
@@ -8,9 +7,6 @@ use Rattle.tables.proofs.Widths.{product_small}
 use Rattle.tables.proofs.Packing.{cells_packed}
 use borrow.Author.Rules.{rules}
 use Rattle.tables.proofs.cells_of.Goals as goal
-
-pub overflow_mul-result : goal.overflow_mul-result
-overflow_mul-result c = omega (arith, product_small c.width_of-rows.result c.width_of-columns.result (search rules) (search rules))
 
 pub returns : goal.returns
 returns c =

@@ -1,5 +1,5 @@
 -- `tables::extents` meets its contract. The offsets up to table f are right, and each adds the cells of the table before it.
-use Prim.Native.Nat.{◌-◌, ◌≤◌}
+use Prim.Native.Nat.{◌≤◌}
 use mathlib.Core.Path.{◌≡◌}
 use lib.ListN.{length}
 use Rattle.prelude.specs.Lists.{at}
@@ -8,6 +8,3 @@ use Rattle.tables.proofs.extents.Given as goal
 
 abbrev pub invariant-loop-f : goal.invariant-loop-f
 invariant-loop-f l = (l.f ≤ l.n) × (l.n ≡ l.p.symbols) × (length l.offsets ≡ 65) × OffsetsTo l.p (at l.sizes) l.f l.offsets
-
-abbrev pub decreases-loop-f : goal.decreases-loop-f
-decreases-loop-f l = l.n - l.f

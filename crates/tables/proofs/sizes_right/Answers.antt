@@ -1,39 +1,14 @@
--- `tables::sizes_right` meets its contract. Every size so far lies from 1 to 16; the first that does not makes the test false.
-use Prim.Native.Nat.{◌≤◌}
-use native.Mathlib.Omega.{arith}
-use mathlib.Core.Path.{◌≡◌, sym}
-use lib.ListN.{length}
-use lib.Dec.{leb}
-use Rattle.prelude.specs.Lists.{at}
-use Rattle.prelude.proofs.Tests.{and_no, true_within, both_true, and_first, false_every, every_more}
-use borrow.Author.Tests.{lt-leb, le-leb}
+-- `tables::sizes_right` meets its contract: what the test says of the first n bytes, it says of each place below n.
+use Rattle.std.proofs.Common.{rules, ◌≡◌, length, true}
+use Rattle.std.specs.Prelude.{IsTrue, EachIndex, slice_index, ◌↔◌}
+use lib.ListN.{take}
+use borrow.Author.Tests.{le-leb}
+use Rattle.prelude.specs.Tests.{within}
+use Rattle.tables.proofs.Slices.{every_taken}
 use Rattle.tables.proofs.sizes_right.Goals as goal
 
-pub returns-then-t-n : goal.returns-then-t-n
-returns-then-t-n c = sym (and_first (leb c.args.n (length c.args.t.now)) _ (lt-leb c.args.n (length c.args.t.now) c.if-t-n.true))
-
-pub returns-then-t-s-eq0 : goal.returns-then-t-s-eq0
-returns-then-t-s-eq0 c =
-    let s = c.args in
-    let l = c.loop-s in
-    sym (and_no (leb s.n (length s.t.now)) _ (false_every s.n _ l.s (omega arith) (and_first _ _ (lt-leb 1 (at s.t.now l.s) (omega arith)))))
-
-pub returns-then-t-s-gt-GREATEST_SIZE : goal.returns-then-t-s-gt-GREATEST_SIZE
-returns-then-t-s-gt-GREATEST_SIZE c =
-    let s = c.args in
-    let l = c.loop-s in
-    sym (and_no (leb s.n (length s.t.now)) _ (false_every s.n _ l.s (omega arith) (and_no (leb 1 (at s.t.now l.s)) _ (lt-leb (at s.t.now l.s) 16 (omega arith)))))
-
-pub loop-s-preserved : goal.loop-s-preserved
-loop-s-preserved c =
-    let s = c.args in
-    let l = c.loop-s in
-    let low : 1 ≤ at s.t.now l.s = omega (arith, c.if-t-s-eq0.false) in
-    (omega arith, omega arith, every_more l.s _ l.invariant.2 (true_within 1 16 (at s.t.now l.s) (low, omega arith)))
-
-pub returns : goal.returns
-returns c =
-    let s = c.args in
-    let l = c.loop-s in
-    let e : l.s ≡ s.n = omega arith in
-    sym (both_true (leb s.n (length s.t.now)) _ (le-leb s.n (length s.t.now) (omega arith)) (rw e at l.invariant.2))
+pub returns-then-n-t : goal.returns-then-n-t
+returns-then-n-t c =
+    let l = take c.args.n c.args.t.now in
+    let e : IsTrue c.all.result ↔ EachIndex l (λ k. within 1 16 (slice_index l k) ≡ true) = search rules in
+    rw (le-leb c.args.n (length c.args.t.now) c.if-n-t.true) (every_taken c.all.result (within 1 16) c.args.t.now c.args.n c.if-n-t.true e)

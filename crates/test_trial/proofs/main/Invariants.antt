@@ -4,6 +4,3 @@ use Rattle.test_trial.proofs.main.Given as goal
 
 abbrev pub invariant-loop-k : goal.invariant-loop-k
 invariant-loop-k l = l.k ≤ 4200
-
-abbrev pub decreases-loop-k : goal.decreases-loop-k
-decreases-loop-k l = 4200 - l.k

@@ -6,33 +6,24 @@ use Rattle.prelude.proofs.Tests.{false_every, every_more}
 use Rattle.walk.specs.Walk.{stays_in}
 use Rattle.walk.proofs.all_stay.Goals as goal
 
-pub loop-k-init : goal.loop-k-init
-loop-k-init c = (omega arith, refl, λ sh q. refl)
+pub loop-event-init : goal.loop-event-init
+loop-event-init c sh q = refl
 
 pub returns-then-not-stays_in : goal.returns-then-not-stays_in
-returns-then-not-stays_in c =
-    let y = c in
-    let l = y.loop-k in
-    let s = y.args in
-    λ sh q.
-    sym (false_every (length s.events.now) _ l.k (omega (arith, l.invariant.1))
-    (ap (stays_in sh s.sort) (sym y.wide.ensures.0) ∙ sym (y.stays_in.ensures sh q) ∙ c.if-not-stays_in.true))
+returns-then-not-stays_in c sh q =
+    let l = c.loop-event in
+    let s = c.args in
+    sym (false_every (length s.events.now) _ l.event-index (omega arith)
+    (ap (stays_in sh s.sort) (sym c.wide.ensures.0) ∙ sym (c.stays_in.ensures sh q) ∙ c.if-not-stays_in.true))
 
-pub loop-k-preserved : goal.loop-k-preserved
-loop-k-preserved c =
-    let y = c in
-    let l = y.loop-k in
-    let s = y.args in (
-      omega arith,
-      l.invariant.1,
-      λ sh q.
-          every_more l.k _ (l.invariant.2 sh q)
-          (ap (stays_in sh s.sort) (sym y.wide.ensures.0) ∙ sym (y.stays_in.ensures sh q) ∙ c.if-not-stays_in.false),
-    )
+pub loop-event-preserved : goal.loop-event-preserved
+loop-event-preserved c sh q =
+    let l = c.loop-event in
+    let s = c.args in
+    every_more l.event-index _ (l.invariant sh q)
+    (ap (stays_in sh s.sort) (sym c.wide.ensures.0) ∙ sym (c.stays_in.ensures sh q) ∙ c.if-not-stays_in.false)
 
 pub returns : goal.returns
-returns c =
-    let l = c.loop-k in
-    let s = c.args in
-    let e : l.k ≡ length s.events.now = omega (arith, l.invariant.1) in
-    λ sh q. sym (rw e at (l.invariant.2 sh q))
+returns c sh q =
+    let e : c.loop-event.event-index ≡ length c.args.events.now = omega arith in
+    sym (rw e at (c.loop-event.invariant sh q))

@@ -1,5 +1,5 @@
 -- `walk::write_walk` meets its contract. The codes of the events so far stand in front of the stretch, and the walk is at the code of the last one; an event more is `walked_more`.
-use Prim.Native.Nat.{ℕ, ◌-◌, ◌≤◌}
+use Prim.Native.Nat.{ℕ, ◌≤◌}
 use mathlib.Core.Path.{◌≡◌}
 use mathlib.Core.Bool.{true}
 use lib.ListN.{length}
@@ -16,6 +16,3 @@ invariant-loop-k l =
     (l.k ≤ length l.events)
     × (length l.out ≡ length l.events)
     × ((sh : Sheet) (sort : ℕ) (p : Parsed) → l.param1 ≡ p.param1 → Laying sh p l.sizes l.offsets l.t → all_stay sh sort l.events ≡ true → WalkedTo (decoded sh l.t) l.code l.events l.out l.k l.c)
-
-abbrev pub decreases-loop-k : goal.decreases-loop-k
-decreases-loop-k l = length l.events - l.k

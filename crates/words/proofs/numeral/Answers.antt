@@ -1,26 +1,29 @@
 -- `words::numeral` meets its contract.
+use Prim.Native.Nat.{◌<◌}
 use native.Mathlib.Omega.{arith}
-use mathlib.Core.Path.{refl}
+use mathlib.Core.Path.{◌≡◌, sym, ◌∙◌}
+use lib.Dec.{ltb}
 use lib.ListN.{length}
-use borrow.Author.Tests.{lt-ltb, le-ltb}
-use Rattle.words.specs.Words.{is_numeral}
-use Rattle.words.proofs.Values.{digit_next, digit_wrong, digits_end}
+use borrow.Author.Tests.{lt-ltb, le-ltb, eqb-true, eqb-false}
+use Rattle.std.proofs.Common.{rules, tests}
+use Rattle.std.proofs.lemmas.Iterator.{YieldsList-from_slice}
+use Rattle.std.proofs.lemmas.Iterator.Search.{all_from_yields_List}
+use Rattle.std.specs.List.{list_all}
+use Rattle.words.specs.Words.{digit_of, is_numeral}
+use Rattle.words.proofs.Values.{digits_all}
 use Rattle.words.proofs.numeral.Goals as goal
 
-pub returns-then-word-eq0 : goal.returns-then-word-eq0
+pub returns-then-not-is_empty : goal.returns-then-not-is_empty
 unfolding is_numeral
-returns-then-word-eq0 c = rw (le-ltb 0 (length c.args.word.now) (omega (arith, c.if-word-eq0.true)))
+returns-then-not-is_empty c =
+    let w = c.args.word.now in
+    let all : c.all.result ≡ list_all (λ x. ltb (digit_of x) c.args.base) w =
+    all_from_yields_List (λ x. ltb (digit_of x) c.args.base) _ _ c.all.result c.all.ensures.ran (YieldsList-from_slice w cc) (λ x b q k. search (rules, tests)) in
+    let some : 0 < length w = omega (arith, eqb-false (length w) 0 (sym c.is_empty.ensures ∙ c.if-not-is_empty.true)) in
+    rw (digits_all c.args.base w, lt-ltb 0 (length w) some) all
 
-pub loop-i-init : goal.loop-i-init
-loop-i-init c = (omega arith, omega (arith, c.if-word-eq0.false), refl)
-
-pub returns-then-base-digit : goal.returns-then-base-digit
+pub returns-else-not-is_empty : goal.returns-else-not-is_empty
 unfolding is_numeral
-returns-then-base-digit c = let l = c.loop-i in rw (lt-ltb 0 (length c.args.word.now) l.invariant.1) (digit_wrong c.args.base c.args.word.now l.i c.loop-i-test.true (rw c.digit.ensures at (le-ltb c.digit.result c.args.base c.if-base-digit.true)) l.invariant.2)
-
-pub loop-i-preserved : goal.loop-i-preserved
-loop-i-preserved c = let l = c.loop-i in (omega arith, l.invariant.1, digit_next c.args.base c.args.word.now l.i c.loop-i-test.true (rw c.digit.ensures at (lt-ltb c.digit.result c.args.base c.if-base-digit.false)) l.invariant.2)
-
-pub returns : goal.returns
-unfolding is_numeral
-returns c = let l = c.loop-i in rw (lt-ltb 0 (length c.args.word.now) l.invariant.1) (digits_end c.args.base c.args.word.now l.i c.loop-i-test.false l.invariant.2)
+returns-else-not-is_empty c =
+    let w = c.args.word.now in
+    rw (c.if-not-is_empty.false, le-ltb 0 (length w) (omega (arith, eqb-true (length w) 0 (sym c.is_empty.ensures ∙ c.if-not-is_empty.false))))

@@ -7,6 +7,3 @@ use Rattle.words.proofs.word.Given as goal
 
 abbrev pub invariant-loop-i : goal.invariant-loop-i
 invariant-loop-i l = (l.from ≤ length l.line) × (l.i ≤ l.k) × (word_at (drop l.from l.line) (l.k - l.i) ≡ word_at l.line l.k)
-
-abbrev pub decreases-loop-i : goal.decreases-loop-i
-decreases-loop-i l = l.k - l.i

@@ -1,5 +1,5 @@
 -- `writing::fill_code` meets its contract: what is filled in is what the fills from here on say.
-use Prim.Native.Nat.{◌-◌, ◌≤◌}
+use Prim.Native.Nat.{◌≤◌}
 use mathlib.Core.Path.{◌≡◌}
 use mathlib.Core.Option.{get_or}
 use lib.ListN.{drop}
@@ -13,6 +13,3 @@ abbrev pub invariant-loop-k : goal.invariant-loop-k
 invariant-loop-k l =
     (l.k ≤ l.p.fills)
     × ((sh : Sheet) → Packs sh l.p → get_or (fill_code (at l.codes) l.symbol sh.fills) 0 ≡ get_or (fill_code (at l.codes) l.symbol (drop l.k sh.fills)) 0)
-
-abbrev pub decreases-loop-k : goal.decreases-loop-k
-decreases-loop-k l = l.p.fills - l.k

@@ -1,5 +1,4 @@
 -- `writing::symbol_table` meets its contract: the terms passed have been put into the table of unforced codes that the loop begins with.
-use Prim.Native.Nat.{◌≤◌}
 use Rattle.prelude.specs.Lists.{at}
 use Rattle.layout.specs.Packed.{view}
 use Rattle.tables.specs.Grid.{cell}
@@ -7,7 +6,4 @@ use Rattle.writing.proofs.Filling.{FilledFrom}
 use Rattle.writing.proofs.symbol_table.Given as goal
 
 abbrev pub invariant-loop-i : goal.invariant-loop-i
-invariant-loop-i l = (l.i ≤ l.p.terms) × FilledFrom (view l.p) (at l.codes) l.symbol (cell l.initial.t) 16 16 l.i l.t
-
-abbrev pub decreases-loop-i : goal.decreases-loop-i
-decreases-loop-i l = l.i
+invariant-loop-i l = FilledFrom (view l.p) (at l.codes) l.symbol (cell l.initial.t) 16 16 l.i l.t

@@ -1,5 +1,5 @@
 -- `writing::unforced_row` meets its contract: the cells passed hold what `unforced` gives.
-use Prim.Native.Nat.{ℕ, ◌-◌, ◌≤◌, ◌<◌}
+use Prim.Native.Nat.{ℕ, ◌≤◌, ◌<◌}
 use mathlib.Core.Path.{◌≡◌}
 use lib.ListN.{length}
 use Rattle.logic.specs.Sheet.{Sheet}
@@ -13,6 +13,3 @@ invariant-loop-col l =
     (l.col ≤ l.columns)
     × (length l.cells ≡ 16)
     × ((sh : Sheet) (size c : ℕ → ℕ) → Packs sh l.p → l.symbol < length sh.symbols → l.fill ≡ filled_with sh c l.symbol → (j : ℕ) → j < l.col → at l.cells j ≡ unforced_at sh size c l.symbol l.row j)
-
-abbrev pub decreases-loop-col : goal.decreases-loop-col
-decreases-loop-col l = l.columns - l.col

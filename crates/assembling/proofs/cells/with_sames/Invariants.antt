@@ -1,5 +1,5 @@
 -- `assembling::cells::with_sames` meets its contract: the statements of the tables passed stand behind those that were there.
-use Prim.Native.Nat.{◌-◌, ◌≤◌}
+use Prim.Native.Nat.{◌≤◌}
 use mathlib.Core.Path.{◌≡◌}
 use Rattle.prelude.specs.Lists.{at}
 use Rattle.logic.specs.Order.{sum_of}
@@ -10,6 +10,3 @@ use Rattle.assembling.proofs.cells.with_sames.Given as goal
 
 abbrev pub invariant-loop-f : goal.invariant-loop-f
 invariant-loop-f l = (l.f ≤ l.n) × (l.n ≤ 64) × (l.n ≡ l.p.symbols) × (l.sorts ≡ l.p.sorts) × ((t : Source l.p) → StartsOf t (at l.starts) → OffsetsOf t (at l.offsets) → TablesOf t l.tables → l.codes ≡ sum_of t.structure t.sheet → LiteralsTo l.initial.out l.f (table_sames t.sheet t.structure) l.out)
-
-abbrev pub decreases-loop-f : goal.decreases-loop-f
-decreases-loop-f l = l.n - l.f

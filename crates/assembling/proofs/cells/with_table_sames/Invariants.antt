@@ -1,7 +1,6 @@
 -- `assembling::cells::with_table_sames` meets its contract: the statements of the cells passed stand behind those that were there.
-use Prim.Native.Nat.{ℕ, ◌+◌, ◌-◌, ◌≤◌}
+use Prim.Native.Nat.{ℕ, ◌+◌}
 use mathlib.Core.List.{List, [], ◌∷◌}
-use lib.ListN.{length}
 use Rattle.prelude.specs.Lists.{at}
 use Rattle.logic.specs.Sheet.{Literal}
 use Rattle.fitted_sheet.specs.FittedSheet.{same}
@@ -12,7 +11,4 @@ abbrev pub one : ℕ → ℕ → List ℕ → ℕ → Literal
 one first start cells i = same (first + i) (start + at cells i)
 
 abbrev pub invariant-loop-k : goal.invariant-loop-k
-invariant-loop-k l = (l.k ≤ length l.cells) × LiteralsTo l.initial.out l.k (λ i. one l.first (at l.starts l.s) l.cells i ∷ []) l.out
-
-abbrev pub decreases-loop-k : goal.decreases-loop-k
-decreases-loop-k l = length l.cells - l.k
+invariant-loop-k l = LiteralsTo l.initial.out l.k (λ i. one l.first (at l.starts l.s) l.cells i ∷ []) l.out

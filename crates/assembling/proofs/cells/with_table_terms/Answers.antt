@@ -59,14 +59,10 @@ with_term-out-requires c =
     let given = c.requires.sizes_of.1 in
     let x = c.cell_term-term.ensures t given.1 given.2 in
     let cell : ℕ → Term = λ i. cell_term_at t.sheet t.structure c.args.f (i / c.width_of-columns.result) (i % c.width_of-columns.result) in
-    let many = (terms_count c.args.q (λ i. cell i ∷ []) c.loop-k.k c.loop-k.out c.requires.building.0 (c.loop-k.invariant.1 t given.1 given.2)).0 in
-    record {
-      terms_lt_most_terms = (
-        omega (arith, many, length_singles c.loop-k.k cell, cells_are c.args.p (at c.args.sizes) c.args.f c.width_of-rows.result c.width_of-columns.result (c.width_of-rows.ensures.0 ∙ ap (width (at c.args.sizes)) c.wide.ensures.0) (c.width_of-columns.ensures.0 ∙ ap (width (at c.args.sizes)) c.wide-2.ensures.0) t given.0 given.2, given.3, c.loop-k-test.true),
-        omega (arith, x.symbol, c.requires.building),
-      );
-      short = x.short;
-    }
+    let many = (terms_count c.args.q (λ i. cell i ∷ []) c.loop-k.k c.loop-k.out c.requires.building.0 (c.loop-k.invariant.1 t given.1 given.2)).0 in (
+      omega (arith, many, length_singles c.loop-k.k cell, cells_are c.args.p (at c.args.sizes) c.args.f c.width_of-rows.result c.width_of-columns.result (c.width_of-rows.ensures.0 ∙ ap (width (at c.args.sizes)) c.wide.ensures.0) (c.width_of-columns.ensures.0 ∙ ap (width (at c.args.sizes)) c.wide-2.ensures.0) t given.0 given.2, given.3, c.loop-k-test.true),
+      omega (arith, x.symbol, c.requires.building),
+    )
 
 pub loop-k-preserved : goal.loop-k-preserved
 loop-k-preserved c = (

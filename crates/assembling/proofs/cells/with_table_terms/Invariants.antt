@@ -1,5 +1,5 @@
 -- `assembling::cells::with_table_terms` meets its contract: the expressions of the cells passed stand behind those that were there.
-use Prim.Native.Nat.{◌-◌, ◌/◌, ◌%◌, ◌≤◌, ◌<◌}
+use Prim.Native.Nat.{◌/◌, ◌%◌, ◌≤◌, ◌<◌}
 use mathlib.Core.List.{[], ◌∷◌}
 use lib.ListN.{length}
 use Rattle.prelude.specs.Lists.{at}
@@ -10,6 +10,3 @@ use Rattle.assembling.proofs.cells.with_table_terms.Given as goal
 
 abbrev pub invariant-loop-k : goal.invariant-loop-k
 invariant-loop-k l = (l.k ≤ l.many) × ((t : Source l.p) → StartsOf t (at l.starts) → l.f < length t.sheet.symbols → TermsTo l.initial.out l.k (λ i. cell_term_at t.sheet t.structure l.f (i / l.columns) (i % l.columns) ∷ []) l.out)
-
-abbrev pub decreases-loop-k : goal.decreases-loop-k
-decreases-loop-k l = l.many - l.k

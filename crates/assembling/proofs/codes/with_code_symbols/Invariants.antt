@@ -1,5 +1,5 @@
 -- `assembling::codes::with_code_symbols` meets its contract: the names of the fields passed stand behind those that were there.
-use Prim.Native.Nat.{ℕ, ◌-◌, ◌≤◌}
+use Prim.Native.Nat.{ℕ}
 use mathlib.Core.List.{List, [], ◌∷◌}
 use Rattle.prelude.specs.Lists.{at, collect}
 use Rattle.logic.specs.Sheet.{Symbol}
@@ -11,7 +11,4 @@ abbrev pub names : List ℕ → ℕ → List Symbol
 names sizes s = collect (at sizes s) (λ k. code_symbol s ∷ [])
 
 abbrev pub invariant-loop-s : goal.invariant-loop-s
-invariant-loop-s l = (l.s ≤ l.n) × SymbolsTo l.initial.out l.s (names l.sizes) l.out
-
-abbrev pub decreases-loop-s : goal.decreases-loop-s
-decreases-loop-s l = l.n - l.s
+invariant-loop-s l = SymbolsTo l.initial.out l.s (names l.fn.sizes) l.out

@@ -1,7 +1,7 @@
 -- `assembling::codes::with_code_terms` meets its contract: the expressions made so far stand behind those that were there.
 use Prim.Native.Nat.{◌+◌}
 use native.Mathlib.Omega.{arith}
-use mathlib.Core.Path.{◌≡◌, refl}
+use mathlib.Core.Path.{◌≡◌}
 use mathlib.Core.List.{[], ◌∷◌}
 use Rattle.prelude.proofs.Collect.{length_singles}
 use Rattle.assembling.specs.Parts.{bare_term}
@@ -15,10 +15,7 @@ pub with_term-out-requires : goal.with_term-out-requires
 with_term-out-requires c =
     let l = c.loop-c in
     let many = terms_count c.args.q (λ i. bare_term (c.args.first + i) ∷ []) l.c l.out c.requires.0 l.invariant.1 in
-    record {
-      terms_lt_most_terms = (omega (arith, many, length_singles l.c (λ i. bare_term (c.args.first + i))), omega (arith, c.requires));
-      short = record { least = omega arith; most = omega arith; second = λ h. refl; third = λ h. refl };
-    }
+    (omega (arith, many, length_singles l.c (λ i. bare_term (c.args.first + i))), omega (arith, c.requires))
 
 pub loop-c-preserved : goal.loop-c-preserved
 loop-c-preserved c =

@@ -1,5 +1,5 @@
 -- `assembling::codes::with_code_terms` meets its contract: the expressions made so far stand behind those that were there.
-use Prim.Native.Nat.{◌+◌, ◌-◌, ◌≤◌}
+use Prim.Native.Nat.{◌+◌, ◌≤◌}
 use mathlib.Core.List.{[], ◌∷◌}
 use Rattle.assembling.specs.Parts.{bare_term}
 use Rattle.assembling.proofs.Growing.{TermsTo}
@@ -7,6 +7,3 @@ use Rattle.assembling.proofs.codes.with_code_terms.Given as goal
 
 abbrev pub invariant-loop-c : goal.invariant-loop-c
 invariant-loop-c l = (l.c ≤ l.n) × TermsTo l.initial.out l.c (λ i. bare_term (l.first + i) ∷ []) l.out
-
-abbrev pub decreases-loop-c : goal.decreases-loop-c
-decreases-loop-c l = l.n - l.c

@@ -1,5 +1,5 @@
 -- `assembling::codes::with_differs` meets its contract: the statements of the fields passed stand behind those that were there.
-use Prim.Native.Nat.{ℕ, ◌-◌, ◌≤◌}
+use Prim.Native.Nat.{ℕ, ◌≤◌}
 use mathlib.Core.List.{List}
 use Rattle.prelude.specs.Lists.{at}
 use Rattle.logic.specs.Sheet.{Literal}
@@ -12,6 +12,3 @@ apart sizes starts s = differs_of (at starts s) (at sizes s)
 
 abbrev pub invariant-loop-s : goal.invariant-loop-s
 invariant-loop-s l = (l.s ≤ l.n) × LiteralsTo l.initial.out l.s (apart l.sizes l.starts) l.out
-
-abbrev pub decreases-loop-s : goal.decreases-loop-s
-decreases-loop-s l = l.n - l.s

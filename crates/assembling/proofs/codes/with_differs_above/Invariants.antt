@@ -1,5 +1,5 @@
 -- `assembling::codes::with_differs_above` meets its contract: the statements made so far stand behind those that were there.
-use Prim.Native.Nat.{suc, ◌+◌, ◌-◌, ◌≤◌}
+use Prim.Native.Nat.{suc, ◌+◌, ◌≤◌}
 use mathlib.Core.List.{[], ◌∷◌}
 use Rattle.fitted_sheet.specs.FittedSheet.{differ}
 use Rattle.assembling.proofs.Growing.{LiteralsTo}
@@ -7,6 +7,3 @@ use Rattle.assembling.proofs.codes.with_differs_above.Given as goal
 
 abbrev pub invariant-loop-k : goal.invariant-loop-k
 invariant-loop-k l = (l.k ≤ l.many) × LiteralsTo l.initial.out l.k (λ i. differ l.first (l.first + suc i) ∷ []) l.out
-
-abbrev pub decreases-loop-k : goal.decreases-loop-k
-decreases-loop-k l = l.many - l.k

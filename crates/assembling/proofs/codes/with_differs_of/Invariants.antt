@@ -11,6 +11,3 @@ above start size i = differs_above (start + i) (size - suc i)
 
 abbrev pub invariant-loop-c : goal.invariant-loop-c
 invariant-loop-c l = (l.c ≤ l.size) × LiteralsTo l.initial.out l.c (above l.start l.size) l.out
-
-abbrev pub decreases-loop-c : goal.decreases-loop-c
-decreases-loop-c l = l.size - l.c

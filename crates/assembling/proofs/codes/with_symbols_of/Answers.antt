@@ -1,6 +1,6 @@
 -- `assembling::codes::with_symbols_of` meets its contract: the names made so far stand behind those that were there.
 use native.Mathlib.Omega.{arith}
-use mathlib.Core.Path.{◌≡◌, refl}
+use mathlib.Core.Path.{◌≡◌}
 use mathlib.Core.List.{[], ◌∷◌}
 use Rattle.prelude.proofs.Collect.{length_singles}
 use Rattle.assembling.proofs.Growing.{symbols_none, symbols_next, symbols_count, still_early}
@@ -13,10 +13,7 @@ loop-c-init c = (omega arith, symbols_none c.args.q (λ i. code_symbol c.args.s 
 pub with_symbol-out-requires : goal.with_symbol-out-requires
 with_symbol-out-requires c =
     let l = c.loop-c in
-    record {
-      symbols_lt_most_symbols = omega (arith, (symbols_count c.args.q (λ i. code_symbol c.args.s ∷ []) l.c l.out c.requires.0 l.invariant.1).0, length_singles l.c (λ i. code_symbol c.args.s));
-      short = record { least = omega arith; most = omega arith; second = λ h. refl; third = λ h. refl };
-    }
+    omega (arith, (symbols_count c.args.q (λ i. code_symbol c.args.s ∷ []) l.c l.out c.requires.0 l.invariant.1).0, length_singles l.c (λ i. code_symbol c.args.s))
 
 pub loop-c-preserved : goal.loop-c-preserved
 loop-c-preserved c =

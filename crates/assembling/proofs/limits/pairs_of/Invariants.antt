@@ -6,6 +6,3 @@ use Rattle.assembling.proofs.limits.pairs_of.Given as goal
 
 abbrev pub invariant-loop-c : goal.invariant-loop-c
 invariant-loop-c l = (l.c ≤ l.n) × (l.n < 256) × (l.sum ≡ sum_to l.c (λ i. l.n - suc i)) × (l.sum ≤ 256 * l.c)
-
-abbrev pub decreases-loop-c : goal.decreases-loop-c
-decreases-loop-c l = l.n - l.c

@@ -40,12 +40,12 @@ returns-then-sort_of-p c k =
     (ne_eqb c.sort_of.result (get_or a.p.param0 c.wide-f.result 0)
     c.if-sort_of-p.true))
     ∙ ill_sorted_by a.p k c.wide-f.result (args_of a.q) a.q.b1 a.q.b2
-    c.sort_of.result t (omega arith) (args_few a.q c.requires.short)
+    c.sort_of.result t (omega arith) (args_few a.q)
     (all_below a.p.terms (args_of a.q) c.requires.b0_lt_symbols.1)
-    (args_first a.q c.requires.short)
-    (args_second a.q c.requires.short) c.sort_of.ensures refl
+    (args_first a.q)
+    (args_second a.q) c.sort_of.ensures refl
     ∙ ap (λ (x : ℕ). ill_sorted k.sheet expression (x ∷ args_of a.q)) c.wide-f.ensures.0
-    ∙ sym (ap (ill_sorted k.sheet expression) (front a.q c.requires.short))
+    ∙ sym (ap (ill_sorted k.sheet expression) (front a.q))
 
 pub sort_of-requires-2 : goal.sort_of-requires-2
 sort_of-requires-2 c =
@@ -78,11 +78,11 @@ returns c k =
     (get_or a.p.param0 c.wide-f.result 0) c.if-sort_of-p.false))
     ∙ ill_sorted_by a.p k c.wide-f.result (args_of a.q) a.q.b1 a.q.b2
     c.sort_of.result c.sort_of-2.result (omega arith)
-    (args_few a.q c.requires.short)
+    (args_few a.q)
     (all_below a.p.terms (args_of a.q) c.requires.b0_lt_symbols.1)
-    (args_first a.q c.requires.short)
-    (args_second a.q c.requires.short)
+    (args_first a.q)
+    (args_second a.q)
     c.sort_of.ensures c.sort_of-2.ensures
     ∙ ap (λ (x : ℕ). ill_sorted k.sheet expression (x ∷ args_of a.q))
     c.wide-f.ensures.0
-    ∙ sym (ap (ill_sorted k.sheet expression) (front a.q c.requires.short))
+    ∙ sym (ap (ill_sorted k.sheet expression) (front a.q))

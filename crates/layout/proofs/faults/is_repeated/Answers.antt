@@ -44,25 +44,17 @@ returns-then-is_same c k =
     (c.loop-i.invariant.1 k
     ∙ occurs_step a.p k a.q.b0 (args_of a.q) a.q.b1 a.q.b2 c.is_same.result
     c.loop-i.i
-    (args_pair a.q a.p.terms c.requires.short
+    (args_pair a.q a.p.terms
     (let h = contents a.p k.sheet k.same in let n = k.sofar.terms in omega arith)
     c.requires.q_value)
-    (args_first a.q c.requires.short)
-    (args_second a.q c.requires.short)
+    (args_first a.q)
+    (args_second a.q)
     c.loop-i-test.true c.is_same.ensures
     ∙ ap
     (λ (b : Bool).
     b ||
     (occurs a.q.b0 (args_of a.q)
     (drop (c.loop-i.i + 1) k.sheet.terms))) c.if-is_same.true)
-
-pub overflow_add-i : goal.overflow_add-i
-overflow_add-i c =
-    let a = c.args in
-    let k = c.requires.part_read in
-    let h = contents a.p k.sheet k.same in
-    let n = k.sofar.terms in
-    omega arith
 
 pub loop-i-preserved : goal.loop-i-preserved
 loop-i-preserved c = (
@@ -72,11 +64,11 @@ loop-i-preserved c = (
       c.loop-i.invariant.1 k
       ∙ occurs_step a.p k a.q.b0 (args_of a.q) a.q.b1 a.q.b2 c.is_same.result
       c.loop-i.i
-      (args_pair a.q a.p.terms c.requires.short
+      (args_pair a.q a.p.terms
       (let h = contents a.p k.sheet k.same in let n = k.sofar.terms in omega arith)
       c.requires.q_value)
-      (args_first a.q c.requires.short)
-      (args_second a.q c.requires.short)
+      (args_first a.q)
+      (args_second a.q)
       c.loop-i-test.true c.is_same.ensures
       ∙ ap
       (λ (b : Bool).

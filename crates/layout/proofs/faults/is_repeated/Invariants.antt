@@ -1,5 +1,5 @@
 -- The invariant: the term occurs exactly when it occurs from here on.
-use Prim.Native.Nat.{◌-◌, ◌≤◌}
+use Prim.Native.Nat.{◌≤◌}
 use mathlib.Core.Path.{◌≡◌}
 use lib.ListN.{drop}
 use Rattle.layout.specs.Layout.{occurs}
@@ -11,6 +11,3 @@ abbrev pub invariant-loop-i : goal.invariant-loop-i
 invariant-loop-i l =
     (l.i ≤ l.p.terms) ×
     ((k : PartRead l.p) → occurs l.q.b0 (args_of l.q) k.sheet.terms ≡ occurs l.q.b0 (args_of l.q) (drop l.i k.sheet.terms))
-
-abbrev pub decreases-loop-i : goal.decreases-loop-i
-decreases-loop-i l = l.p.terms - l.i

@@ -4,6 +4,7 @@ use native.Mathlib.Omega.{arith}
 use mathlib.Core.Path.{ap, sym, ◌∙◌}
 use lib.Dec.{ltb}
 use Rattle.prelude.specs.Tests.{all}
+use Rattle.prelude.specs.Causes.{tested}
 use Rattle.layout.specs.Layout.{expression, ill_sorted}
 use Rattle.layout.specs.Parts.{later}
 use Rattle.layout.proofs.Pack.{contents}
@@ -13,34 +14,38 @@ use Rattle.layout.proofs.faults.term_fault.Goals as goal
 
 pub returns-then-p-ge-MOST_TERMS : goal.returns-then-p-ge-MOST_TERMS
 returns-then-p-ge-MOST_TERMS c k =
+    ap tested (
     let a = c.args in
     let h = contents a.p k.sheet k.same in
     term_many k.sheet a.q.b0 (args_of a.q) (omega arith)
-    ∙ sym (ap (later k.sheet expression) (front a.q c.requires.short))
+    ∙ sym (ap (later k.sheet expression) (front a.q)))
 
 pub returns-then-p-wide : goal.returns-then-p-wide
 returns-then-p-wide c k =
+    ap tested (
     let a = c.args in
     let h = contents a.p k.sheet k.same in
     term_symbol k.sheet a.q.b0 (args_of a.q) (omega arith) (omega arith)
-    ∙ sym (ap (later k.sheet expression) (front a.q c.requires.short))
+    ∙ sym (ap (later k.sheet expression) (front a.q)))
 
 pub returns-then-not-rest_below : goal.returns-then-not-rest_below
 returns-then-not-rest_below c k =
+    ap tested (
     let a = c.args in
     let h = contents a.p k.sheet k.same in
     term_args k.sheet a.q.b0 (args_of a.q) (omega arith) (omega arith)
     (ap (λ (n : ℕ). all (λ x. ltb x n) (args_of a.q)) (sym h.terms)
     ∙ sym c.rest_below.ensures
     ∙ c.if-not-rest_below.true)
-    ∙ sym (ap (later k.sheet expression) (front a.q c.requires.short))
+    ∙ sym (ap (later k.sheet expression) (front a.q)))
 
 pub is_ill_sorted-requires : goal.is_ill_sorted-requires
 is_ill_sorted-requires c =
-    record { part_read = c.requires.part_read; short = c.requires.short; b0_lt_symbols = (omega arith, sym c.rest_below.ensures ∙ c.if-not-rest_below.false) }
+    record { part_read = c.requires; b0_lt_symbols = (omega arith, sym c.rest_below.ensures ∙ c.if-not-rest_below.false) }
 
 pub returns-then-is_ill_sorted : goal.returns-then-is_ill_sorted
 returns-then-is_ill_sorted c k =
+    ap tested (
     let a = c.args in
     let h = contents a.p k.sheet k.same in
     term_sorts k.sheet a.q.b0 (args_of a.q) (omega arith) (omega arith)
@@ -49,18 +54,19 @@ returns-then-is_ill_sorted c k =
     ∙ c.if-not-rest_below.false)
     (sym
     (ap (ill_sorted k.sheet expression)
-    (front a.q c.requires.short))
+    (front a.q))
     ∙ sym (c.is_ill_sorted.ensures k)
     ∙ c.if-is_ill_sorted.true)
     ∙ sym
     (ap (later k.sheet expression)
-    (front a.q c.requires.short))
+    (front a.q)))
 
 pub is_repeated-requires : goal.is_repeated-requires
-is_repeated-requires c = record { part_read = c.requires.part_read; short = c.requires.short; q_value = sym c.rest_below.ensures ∙ c.if-not-rest_below.false }
+is_repeated-requires c = record { part_read = c.requires; q_value = sym c.rest_below.ensures ∙ c.if-not-rest_below.false }
 
 pub returns-then-is_repeated : goal.returns-then-is_repeated
 returns-then-is_repeated c k =
+    ap tested (
     let a = c.args in
     let h = contents a.p k.sheet k.same in
     term_again k.sheet a.q.b0 (args_of a.q) (omega arith) (omega arith)
@@ -69,15 +75,16 @@ returns-then-is_repeated c k =
     ∙ c.if-not-rest_below.false)
     (sym
     (ap (ill_sorted k.sheet expression)
-    (front a.q c.requires.short))
+    (front a.q))
     ∙ sym (c.is_ill_sorted.ensures k)
     ∙ c.if-is_ill_sorted.false) (sym (c.is_repeated.ensures k) ∙ c.if-is_repeated.true)
     ∙ sym
     (ap (later k.sheet expression)
-    (front a.q c.requires.short))
+    (front a.q)))
 
 pub returns : goal.returns
 returns c k =
+    ap tested (
     let a = c.args in
     let h = contents a.p k.sheet k.same in
     term_fine k.sheet a.q.b0 (args_of a.q) (omega arith) (omega arith)
@@ -86,9 +93,9 @@ returns c k =
     ∙ c.if-not-rest_below.false)
     (sym
     (ap (ill_sorted k.sheet expression)
-    (front a.q c.requires.short))
+    (front a.q))
     ∙ sym (c.is_ill_sorted.ensures k)
     ∙ c.if-is_ill_sorted.false) (sym (c.is_repeated.ensures k) ∙ c.if-is_repeated.false)
     ∙ sym
     (ap (later k.sheet expression)
-    (front a.q c.requires.short))
+    (front a.q)))

@@ -30,14 +30,6 @@ returns-then-p-k c q =
     ∙ filled_step a.p q a.symbol l.loop-k.k c.loop-k-test.true
     ∙ ap (λ (b : Bool). b || is_filled a.symbol (drop (l.loop-k.k + 1) q.sheet.fills)) (eq-eqb _ _ c.if-p-k.true))
 
-pub overflow_add-k : goal.overflow_add-k
-overflow_add-k c =
-    let m = c in
-    let q = m.requires in
-    let h = contents m.args.p q.sheet q.same in
-    let n = q.sofar.fills in
-    omega arith
-
 pub loop-k-preserved : goal.loop-k-preserved
 loop-k-preserved c = (
   omega arith,

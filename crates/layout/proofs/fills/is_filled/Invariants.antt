@@ -1,5 +1,5 @@
 -- The invariant: a fill is of the symbol exactly when one from here on is.
-use Prim.Native.Nat.{◌-◌, ◌≤◌}
+use Prim.Native.Nat.{◌≤◌}
 use mathlib.Core.Path.{◌≡◌}
 use lib.ListN.{drop}
 use Rattle.layout.specs.Layout.{is_filled}
@@ -8,6 +8,3 @@ use Rattle.layout.proofs.fills.is_filled.Given as goal
 
 abbrev pub invariant-loop-k : goal.invariant-loop-k
 invariant-loop-k l = (l.k ≤ l.p.fills) × ((q : PartRead l.p) → is_filled l.symbol q.sheet.fills ≡ is_filled l.symbol (drop l.k q.sheet.fills))
-
-abbrev pub decreases-loop-k : goal.decreases-loop-k
-decreases-loop-k l = l.p.fills - l.k

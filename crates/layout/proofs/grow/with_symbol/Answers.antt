@@ -13,6 +13,6 @@ returns c sh e none =
     let a = c.args in
     let h = contents a.p sh e in
     ap (λ (p : Parsed). more_symbol p a.q.b0 a.q.b1 a.q.b2) e
-    ∙ ap (λ (x : ℕ). more_symbol (packed sh) a.q.b0 x a.q.b2) (sym (args_first a.q c.requires.short))
-    ∙ ap (λ (x : ℕ). more_symbol (packed sh) a.q.b0 (first (args_of a.q)) x) (sym (args_second a.q c.requires.short))
+    ∙ ap (λ (x : ℕ). more_symbol (packed sh) a.q.b0 x a.q.b2) (sym (args_first a.q))
+    ∙ ap (λ (x : ℕ). more_symbol (packed sh) a.q.b0 (first (args_of a.q)) x) (sym (args_second a.q))
     ∙ symbol_packed sh (record { result = a.q.b0; params = args_of a.q }) (omega arith) none

@@ -18,7 +18,7 @@ returns c sh e there =
     ap (λ (x : ℕ). more_term a.p a.q.b0 a.q.b1 a.q.b2 x)
     (ap (λ (i : ℕ). get_or a.p.result i 0) c.wide-f.ensures.0 ∙ h.result a.q.b0 there)
     ∙ ap (λ (p : Parsed). more_term p a.q.b0 a.q.b1 a.q.b2 s) e
-    ∙ ap (λ (x : ℕ). more_term (packed sh) a.q.b0 x a.q.b2 s) (sym (args_first a.q c.requires.short))
+    ∙ ap (λ (x : ℕ). more_term (packed sh) a.q.b0 x a.q.b2 s) (sym (args_first a.q))
     ∙ ap (λ (x : ℕ). more_term (packed sh) a.q.b0 (first (args_of a.q)) x s)
-    (sym (args_second a.q c.requires.short))
+    (sym (args_second a.q))
     ∙ term_packed sh (record { symbol = a.q.b0; args = args_of a.q }) (omega arith)

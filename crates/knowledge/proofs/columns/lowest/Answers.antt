@@ -1,0 +1,7 @@
+-- `columns::lowest` meets its contract.
+use lib.Count.{trailing_le}
+use native.Mathlib.Omega.{arith}
+use Rattle.knowledge.proofs.columns.lowest.Goals as goal
+
+pub overflow_cast-result : goal.overflow_cast-result
+overflow_cast-result c = omega (arith, trailing_le 64 c.args.w)

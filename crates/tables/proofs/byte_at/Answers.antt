@@ -1,7 +1,0 @@
--- `tables::byte_at` meets its contract. Past the end the default of `at` is 0.
-use mathlib.Core.Path.{sym}
-use lib.ListN.{get_or-eq_default}
-use Rattle.tables.proofs.byte_at.Goals as goal
-
-pub returns : goal.returns
-returns c = sym (get_or-eq_default c.args.t.now 0 c.if-i-t.false)
