@@ -105,7 +105,7 @@ fn follow<'a>(
 // All rules once. R3 has nothing to do where no groups were joined since it last went through.
 fn round<'a>(
     known: &mut Known,
-    fresh: &mut [bool; MOST_TERMS],
+    fresh: &mut [u8; MOST_TERMS],
     terms: Terms<'a>,
     joined: bool,
 ) -> Next
@@ -134,7 +134,7 @@ fn said(open: bool, joins: bool) -> Next {
 // R3, which has nothing to do where no groups were joined since it last went through.
 fn join_moved<'a>(
     known: &mut Known,
-    fresh: &mut [bool; MOST_TERMS],
+    fresh: &mut [u8; MOST_TERMS],
     terms: Terms<'a>,
     joined: bool,
 ) -> bool
@@ -147,7 +147,7 @@ fn join_moved<'a>(
 fn rounds<'a>(known: &mut Known, terms: Terms<'a>)
     ensures { Kept (Lawful terms.entry) (Knows known.old) (Knows known.new) }
 {
-    let mut fresh = [false; MOST_TERMS];
+    let mut fresh = [0u8; MOST_TERMS];
     let mut joined = true;
     for done in 0..ROUNDS {
         match round(known, &mut fresh, terms, joined) {

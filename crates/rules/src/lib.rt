@@ -33,13 +33,10 @@ pub fn join_singles<'a>(known: &mut Known, terms: Terms<'a>) -> bool
     news
 }
 
-// R3: terms of one symbol whose arguments have equal labels are one group; fresh becomes true at the first of each such group and false
-// at the others.
-pub fn join_congruent<'a>(
-    known: &mut Known,
-    fresh: &mut [bool; MOST_TERMS],
-    terms: Terms<'a>,
-) -> bool
+// R3: terms of one symbol whose arguments have equal labels are one group; fresh becomes 1 at the first of each such group and 0 at the
+// others.
+// Kept: fresh is a byte and no flag, here and below: docs/DESIGN.md names these functions, whose types may not ask more.
+pub fn join_congruent<'a>(known: &mut Known, fresh: &mut [u8; MOST_TERMS], terms: Terms<'a>) -> bool
     ensures { Kept (CongruentTerms terms.entry) (Knows known.old) (Knows known.new) }
 {
     let mut table: [Option<u8>; SLOTS] = [None; SLOTS];
@@ -64,11 +61,7 @@ pub fn strike_marked<'a>(known: &mut Known, terms: Terms<'a>) -> bool
 
 // R4: where the results of one symbol differ and all argument pairs but one are equal, that pair differs. The terms to compare with share
 // the second argument, or the lack of one, or the first.
-pub fn mark_arguments<'a>(
-    known: &mut Known,
-    terms: Terms<'a>,
-    fresh: &'a [bool; MOST_TERMS],
-) -> bool
+pub fn mark_arguments<'a>(known: &mut Known, terms: Terms<'a>, fresh: &'a [u8; MOST_TERMS]) -> bool
     ensures { Marked (LawfulGrouped terms.entry known.old.labels known.old.masks) known.old known.new }
 {
     let news = contrapose_all(known, terms, terms.arg0, terms.arg1, fresh);
@@ -172,7 +165,7 @@ fn meet_key<'a>(
     known: &mut Known,
     table: &mut [Option<u8>; SLOTS],
     keys: &mut [u32; SLOTS],
-    fresh: &mut [bool; MOST_TERMS],
+    fresh: &mut [u8; MOST_TERMS],
     terms: Terms<'a>,
     i: usize,
 ) -> bool
@@ -187,10 +180,10 @@ fn meet_key<'a>(
     let Some(j) = table[h] else {
         table[h] = Some(i as u8);
         keys[h] = k;
-        fresh[i] = true;
+        fresh[i] = 1;
         return false;
     };
-    fresh[i] = false;
+    fresh[i] = 0;
     congruent(known, terms, i, wide(j))
 }
 
@@ -230,12 +223,12 @@ fn buckets<'a>(
     terms: Terms<'a>,
     there: &'a [u8; MOST_TERMS],
     by: &'a [u8; MOST_TERMS],
-    fresh: &'a [bool; MOST_TERMS],
+    fresh: &'a [u8; MOST_TERMS],
 ) -> [u8; MOST_TERMS] {
     let mut earlier = [NO_TERM; MOST_TERMS];
     let mut last = [NO_TERM; SLOTS];
     for i in 0..terms.n {
-        if fresh[i] && there[i] != MISSING {
+        if fresh[i] == 1 && there[i] != MISSING {
             let h = (wide(terms.symbol[i]) * 37 + wide(known.label(by[i])) * 11) % SLOTS;
             earlier[i] = last[h];
             last[h] = i as u8;
@@ -301,7 +294,7 @@ fn contrapose_all<'a>(
     terms: Terms<'a>,
     there: &'a [u8; MOST_TERMS],
     by: &'a [u8; MOST_TERMS],
-    fresh: &'a [bool; MOST_TERMS],
+    fresh: &'a [u8; MOST_TERMS],
 ) -> bool
     ensures { Marked (LawfulGrouped terms.entry known.old.labels known.old.masks) known.old known.new }
 {
