@@ -59,7 +59,7 @@ pub extern "C" fn judge(sheet: &[u8], tables: &[u8]) -> u32
     }
 }
 
-// What find, sizes or find_at found, as one number.
+// What find, sizes or find_at found, as one number. Not exported: that the answer is small is proved where each of the three calls it.
 fn found_number(found: Result<usize, Refusal>) -> u32
     requires { Small found }
     ensures { result ≡ find_number found }
