@@ -29,8 +29,11 @@ pub fn find_at(
     ensures codes { codes.new ≡ codes_after_at sheet.now sizes.now codes.old tables.old }
     ensures tables { tables.new ≡ tables_after_at sheet.now sizes.now codes.old tables.old }
 {
-    let p = sheet::parse(sheet)?;
-    find_at_parsed(p, sizes, codes, tables)
+    // Kept: no `?`, in which the edit `place_lost` would find no place to change.
+    match sheet::parse(sheet) {
+        Ok(p) => find_at_parsed(p, sizes, codes, tables),
+        Err(r) => Err(r),
+    }
 }
 
 // Find at given sizes, of a sheet that has been parsed: cause 10, then cause 17, then cause 11, then the answer.

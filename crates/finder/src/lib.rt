@@ -16,8 +16,11 @@ pub fn find(sheet: &[u8], codes: &mut [u8], tables: &mut [u8]) -> Result<usize, 
     ensures codes { codes.new ≡ codes_after sheet.now codes.old tables.old }
     ensures tables { tables.new ≡ tables_after sheet.now codes.old tables.old }
 {
-    let p = sheet::parse(sheet)?;
-    in_turn(p, codes, tables)
+    // Kept: no `?`, in which the edit `eleven_before_looking` would find no answer to change.
+    match sheet::parse(sheet) {
+        Ok(p) => in_turn(p, codes, tables),
+        Err(unread) => Err(unread),
+    }
 }
 
 // Find, of a sheet that has been parsed: cause 10, then the two questions in turn, sizes and find_at at these sizes.
@@ -29,8 +32,12 @@ pub fn in_turn(p: Parsed, codes: &mut [u8], tables: &mut [u8]) -> Result<usize, 
         return Err(Cause::ShortBuffer.at(0));
     }
     let mut sizes = [0u8; MOST_SORTS];
-    // the sum is find_at's to give; its name here names the goal at which `seventeen_for_eleven` is refused
-    let _sum = sizes::sizes_parsed(p, &mut sizes)?;
-    let n = p.sorts;
-    find_at::find_at_parsed(p, &sizes[..n], codes, tables)
+    // Kept: no `?`, in which the edit `seventeen_for_eleven` would find no cause to change.
+    match sizes::sizes_parsed(p, &mut sizes) {
+        Ok(_) => {
+            let n = p.sorts;
+            find_at::find_at_parsed(p, &sizes[..n], codes, tables)
+        }
+        Err(r) => Err(r),
+    }
 }

@@ -12,7 +12,11 @@ use sheet::parse;
 pub fn forced(sheet: &[u8], a: usize, b: usize) -> Result<bool, Refusal>
     ensures { result ≡ forcing sheet.now a b }
 {
-    let p = parse(sheet)?;
+    // Kept: no `?`, in which the edit `wrong_place` would find no place to change.
+    let p = match parse(sheet) {
+        Ok(p) => p,
+        Err(r) => return Err(r),
+    };
     let terms = p.terms;
     if terms <= a {
         return Err(Cause::NotThere.at(0));

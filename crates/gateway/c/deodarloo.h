@@ -3,9 +3,9 @@
  * Each buffer is a pointer and a length in bytes; a NULL pointer goes with length 0. Buffers do not overlap.
  * A refusal has its number in the upper 16 bits of the result and its place in the lower 16; every buffer is then as it was.
  *
- * Stack: the deepest call of find that was measured used 781,000 bytes. The compiled frames come to 942,000 where every recursion goes
+ * Stack: the deepest call of find that was measured used 769,000 bytes. The compiled frames come to 787,000 where every recursion goes
  * as deep as it can (bench/stack.py prints both); sizes and find_at are what find calls: give a thread that calls one of the three 2 MB.
- * A call of judge used 17,000 bytes. */
+ * A call of judge used 23,000 bytes. */
 #ifndef DEODARLOO_H
 #define DEODARLOO_H
 

@@ -13,7 +13,11 @@ use sheet::parse;
 pub fn group(sheet: &[u8], e: usize) -> Result<usize, Refusal>
     ensures { result ≡ grouping sheet.now e }
 {
-    let p = parse(sheet)?;
+    // Kept: no `?`, in which the edit `wrong_place` would find no place to change.
+    let p = match parse(sheet) {
+        Ok(p) => p,
+        Err(r) => return Err(r),
+    };
     if p.terms <= e {
         return Err(Cause::NotThere.at(0));
     }

@@ -1,2 +1,3 @@
 pub mod Bits
+pub mod Handing
 pub mod Keeping

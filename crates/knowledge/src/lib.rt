@@ -2,7 +2,7 @@
 // Each method adds knowledge, and promises that what was true of an assignment of codes stays true of it.
 #![tactic(auto)]
 
-ghost use Rattle.std.specs.Prelude.{◌≡◌, true, ◌+◌, ◌*◌, ◌/◌, ◌≤◌, ◌<◌};
+ghost use Rattle.std.specs.Prelude.{◌≡◌, true, ◌+◌, ◌*◌, ◌/◌, ◌^◌, ◌≤◌, ◌<◌};
 ghost use Rattle.prelude.specs.Limits.{most_terms, most_codes};
 ghost use Rattle.prelude.specs.Lists.{at};
 ghost use Rattle.knowledge.specs.Knows.{Bit, Labels, Masks, Marks, Knows, SmallCodes, Same, Differ, Means, Kept, Struck, Marked, Single, IfSingle, half_bits};
@@ -63,6 +63,7 @@ impl Known {
     pub fn columns(&self, a: usize) -> Columns
         ensures row { a < most_terms → (result.low ≡ at self.now.marks (2 * a)) × (result.high ≡ at self.now.marks (2 * a + 1)) }
         ensures none { most_terms ≤ a → (result.low ≡ 0) × (result.high ≡ 0) }
+        ensures halves { (result.low < 2 ^ half_bits) × (result.high < 2 ^ half_bits) }
     {
         if MOST_TERMS <= a {
             return Columns { low: 0, high: 0 };

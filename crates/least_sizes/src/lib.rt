@@ -33,7 +33,7 @@ pub fn least_sizes(p: Parsed) -> Option<[u8; MOST_SORTS]>
         return None;
     }
     let low = raise(p, high, &mut weights);
-    hunt(p, low, high, p.total, None, &mut weights)
+    hunt(&p, low, high, p.total, None, &mut weights)
 }
 
 // Whether these sizes have consistent codes.
@@ -188,18 +188,18 @@ fn widen(
 // A look at the lowest sizes of a region: nothing in the region comes before the best so far, or they are the best, or a box that
 // they lie in is barren.
 fn look(
-    p: Parsed,
+    p: &Parsed,
     low: [u8; MOST_SORTS],
     high: [u8; MOST_SORTS],
     bound: usize,
     best: Option<[u8; MOST_SORTS]>,
     weights: &mut [u16; MOST_TERMS],
 ) -> Looking
-    requires searchable { Searchable p }
-    requires region { Region (view p) (at low) (at high) }
-    requires bound_le_total { bound ≤ p.total }
-    requires contender { Candidate (view p) bound best }
-    ensures { Looked (view p) (at low) (at high) bound best result }
+    requires searchable { Searchable p.now }
+    requires region { Region (view p.now) (at low) (at high) }
+    requires bound_le_total { bound ≤ p.now.total }
+    requires contender { Candidate (view p.now) bound best }
+    ensures { Looked (view p.now) (at low) (at high) bound best result }
 {
     if bound < sum_of(low, p.sorts) {
         return Looking::Done(best);
@@ -209,27 +209,27 @@ fn look(
             return Looking::Done(best);
         }
     }
-    if probe(p, low, weights) {
+    if probe(*p, low, weights) {
         return Looking::Done(Some(low));
     }
-    Looking::Boxed(widen(p, low, high, weights))
+    Looking::Boxed(widen(*p, low, high, weights))
 }
 
 // The best sizes, once those of a region have been taken into account. A barren box splits the region: sort by sort, the sizes that
-// leave the box in that sort and not in an earlier one.
+// leave the box in that sort and not in an earlier one. The sheet is lent, here and to `look`: a level of this recursion holds no copy of it.
 fn hunt(
-    p: Parsed,
+    p: &Parsed,
     low: [u8; MOST_SORTS],
     high: [u8; MOST_SORTS],
     bound: usize,
     best: Option<[u8; MOST_SORTS]>,
     weights: &mut [u16; MOST_TERMS],
 ) -> Option<[u8; MOST_SORTS]>
-    requires searchable { Searchable p }
-    requires region { Region (view p) (at low) (at high) }
-    requires bound_le_total { bound ≤ p.total }
-    requires contender { Candidate (view p) bound best }
-    ensures { Hunted (view p) (at low) (at high) bound best result }
+    requires searchable { Searchable p.now }
+    requires region { Region (view p.now) (at low) (at high) }
+    requires bound_le_total { bound ≤ p.now.total }
+    requires contender { Candidate (view p.now) bound best }
+    ensures { Hunted (view p.now) (at low) (at high) bound best result }
 {
     let corner = match look(p, low, high, bound, best, weights) {
         Looking::Done(after) => return after,

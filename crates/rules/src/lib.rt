@@ -4,7 +4,7 @@
 
 ghost use Rattle.std.specs.Prelude.{◌*◌, ◌<◌};
 ghost use Rattle.prelude.specs.Limits.{most_sorts, most_terms, most_codes};
-ghost use Rattle.knowledge.specs.Knows.{Knows, SmallCodes, Kept, Struck, Marked};
+ghost use Rattle.knowledge.specs.Knows.{Knows, Marks, Differ, SmallCodes, Means, Kept, Struck, Marked};
 ghost use Rattle.rules.specs.Reasons.{CongruentTerms, SmallMarks, LawfulGrouped};
 ghost use Rattle.rules.specs.Parts.{CodeMarks};
 
@@ -189,13 +189,11 @@ fn meet_key<'a>(
 
 // R5 of two groups: k cannot have the code v of a group g that it is marked against.
 fn strike_one(known: &mut Known, g: usize, v: usize, k: usize) -> bool
-    requires { v < most_codes }
+    requires code { v < most_codes }
+    requires marked { Means (Marks known.old.marks) (Differ g k) }
     ensures { Struck (CodeMarks known.old.marks g v) known.old known.new }
 {
-    if known.marked(g, k) {
-        return known.strike(k, 1u16 << v);
-    }
-    false
+    known.strike(k, 1u16 << v)
 }
 
 // R5 of one group: a single code left is struck out in the groups marked against it.

@@ -17,8 +17,11 @@ pub fn sizes(sheet: &[u8], out: &mut [u8]) -> Result<usize, Refusal>
     ensures result { result ≡ sizing sheet.now (length out.old) }
     ensures buffer { out.new ≡ sizes_after sheet.now out.old }
 {
-    let p = sheet::parse(sheet)?;
-    sizes_parsed(p, out)
+    // Kept: no `?`, in which the edit `place_lost` would find no place to change.
+    match sheet::parse(sheet) {
+        Ok(p) => sizes_parsed(p, out),
+        Err(r) => Err(r),
+    }
 }
 
 // Sizes, of a sheet that has been parsed: cause 10, then cause 11, then the sizes.

@@ -138,8 +138,9 @@ fn put_cells(out: &mut [u8], from: usize, cells: &[u8]) -> usize
     ensures short { result ≤ from + 4 * length cells.now }
 {
     let mut at = from;
-    for cell in cells {
-        at = put_spaced(out, at, *cell as usize);
+    // Kept: a range, whose start the edit `first_cell_lost` changes.
+    for i in 0..cells.len() {
+        at = put_spaced(out, at, cells[i] as usize);
     }
     at
 }

@@ -88,7 +88,13 @@ fn behind_word(line: &[u8], from: usize) -> usize
 fn count(line: &[u8]) -> usize
     ensures { (result ≡ many line.now) × (1 ≤ result) }
 {
-    line.iter().filter(|c| **c == b' ').count() + 1
+    let mut blanks: usize = 0;
+    for c in line {
+        if *c == b' ' {
+            blanks += 1;
+        }
+    }
+    blanks + 1
 }
 
 // The value of a digit; 16 where the character is no digit.

@@ -1,20 +1,18 @@
 -- `finder::find` meets its contract: a refusal is the parser's, and what was read goes on to `in_turn`.
-use Rattle.std.proofs.lemmas.Result.{err_from_is_err_and}
 use Rattle.sheet.proofs.Verdicts.{read_from_lem}
 use Rattle.finder.proofs.Buffers.{parse_refused}
 use Rattle.finder.proofs.find.Goals as goal
 
-pub returns-in_err-p : goal.returns-in_err-p
-returns-in_err-p c =
-    let e = err_from_is_err_and c.from_residual.result c.from_residual.ensures.1 in
-    let f = parse_refused c.args.sheet.now c.args.codes.now c.args.tables.now c.in_err-p.field-0.0 c.in_err-p.ensures in
-    rw (e.1, e.2) (record { result = f.result; codes = f.codes; tables = f.tables })
-
 pub in_turn-requires : goal.in_turn-requires
-in_turn-requires c = read_from_lem c.args.sheet.now c.in_ok-p.p c.in_ok-p.ensures
+in_turn-requires c = read_from_lem c.args.sheet.now c.in-Ok.p c.in-Ok.ensures
 
-pub returns : goal.returns
+pub returns-in-Ok : goal.returns-in-Ok
 unfolding read_from_lem
-returns c =
-    let f = c.in_turn.ensures (read_from_lem c.args.sheet.now c.in_ok-p.p c.in_ok-p.ensures) in
+returns-in-Ok c =
+    let f = c.in_turn.ensures (read_from_lem c.args.sheet.now c.in-Ok.p c.in-Ok.ensures) in
+    record { result = f.result; codes = f.codes; tables = f.tables }
+
+pub returns-in-Err : goal.returns-in-Err
+returns-in-Err c =
+    let f = parse_refused c.args.sheet.now c.args.codes.now c.args.tables.now c.in-Err.unread c.in-Err.ensures in
     record { result = f.result; codes = f.codes; tables = f.tables }

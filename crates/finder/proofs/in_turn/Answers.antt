@@ -10,7 +10,6 @@ use Rattle.tables.specs.Parts.{Packs}
 use Rattle.find_at.specs.Found.{short}
 use lib.ListN.{length, length-replicate, replicate}
 use lib.Seq.{length-take-le}
-use Rattle.std.proofs.lemmas.Result.{err_from_is_err_and}
 use Rattle.sheet.specs.Verdict.{ReadFrom}
 use Rattle.tables.proofs.Whole.{packs_limited}
 use Rattle.judge.proofs.Questions.{read_packs}
@@ -42,18 +41,16 @@ returns-then-are_short c q =
     (refusal_finds q.bytes c.args.codes.now c.args.tables.now 10 0
     (outcome_tested q.bytes q.sheet _ _ q.reads (sym (c.are_short.ensures q.sheet (read_packs c.args.p q)) ∙ c.if-are_short.true)))
 
-pub returns-in_err-_sum : goal.returns-in_err-_sum
-returns-in_err-_sum c q =
-    let e = err_from_is_err_and c.from_residual.result c.from_residual.ensures.1 in
-    rw (e.1, e.2)
-    (turn_refused q.bytes c.args.p.sorts zs c.args.codes.now c.args.tables.now
-    (turn c.args.p c.args.codes.now c.args.tables.now c.are_short.result q c.are_short.ensures c.if-are_short.false) c.in_err-_sum.field-0.0
-    (sym (c.in_err-_sum.ensures q).result))
+pub returns-in-Err : goal.returns-in-Err
+returns-in-Err c q =
+    turn_refused q.bytes c.args.p.sorts zs c.args.codes.now c.args.tables.now
+    (turn c.args.p c.args.codes.now c.args.tables.now c.are_short.result q c.are_short.ensures c.if-are_short.false) c.in-Err.r
+    (sym (c.in-Err.ensures q).result)
 
-pub returns : goal.returns
-returns c q =
+pub returns-in-Ok : goal.returns-in-Ok
+returns-in-Ok c q =
     let found = c.find_at_parsed.ensures q in
-    let written = c.in_ok-_sum.ensures q in
+    let written = c.in-Ok.ensures q in
     turn_found q.bytes c.args.p.sorts zs c.args.codes.now c.args.tables.now
     (turn c.args.p c.args.codes.now c.args.tables.now c.are_short.result q c.are_short.ensures c.if-are_short.false) _
     (sym written.result) _ _ _ (rw (← written.buffer) found)

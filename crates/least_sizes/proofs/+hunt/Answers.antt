@@ -10,7 +10,7 @@ pub hunt-after-requires : goal.hunt-after-requires
 hunt-after-requires t c =
     let i = c.loop-s.invariant in
     let inside = c.in-Boxed.ensures.inside in (
-      subst (λ (n : ℕ). sum_to c.args.p.sorts (at c.loop-s.up) - sum_to c.args.p.sorts (at c.with_size-down.result) < n) c.decreases
+      subst (λ (n : ℕ). sum_to c.args.p.now.sorts (at c.loop-s.up) - sum_to c.args.p.now.sorts (at c.with_size-down.result) < n) c.decreases
           (down_fewer _ _ _ _ _ _ _ c.loop-s.up c.loop-s.s _ _ c.requires.searchable.sorts c.loop-s-test.true i c.wide-b.ensures.0 c.wide-u.ensures.0 inside c.if-b-u.true c.with_size-down.result c.args.low (λ j. refl) c.well_formed.1.0.1.0.1 c.with_size-down.ensures),
       (
         c.requires.searchable,

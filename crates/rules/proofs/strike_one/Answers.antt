@@ -5,7 +5,7 @@ use Rattle.knowledge.proofs.Bits.{bit_pow, shl_one}
 use native.Mathlib.Omega.{arith}
 use Rattle.rules.proofs.strike_one.Goals as goal
 
-pub returns-then-marked : goal.returns-then-marked
-returns-then-marked c =
+pub returns : goal.returns
+returns c =
     let p = c.args in
-    struck_step (λ a g w b. (c.marked.ensures c.if-marked.true).means a g.marks (g.code ∙ sym (bit_pow p.v (a p.k) (rw (shl_one p.v 16 (omega arith)) at b)))) c.strike.ensures
+    struck_step (λ a g w b. c.requires.marked.means a g.marks (g.code ∙ sym (bit_pow p.v (a p.k) (rw (shl_one p.v 16 (omega arith)) at b)))) c.strike.ensures

@@ -3,5 +3,5 @@ use Rattle.text.specs.Text.{spaced}
 use Rattle.text.proofs.Entries.{EntriesWritten}
 use Rattle.text.proofs.put_cells.Given as goal
 
-abbrev pub invariant-loop-cell : goal.invariant-loop-cell
-invariant-loop-cell l = EntriesWritten spaced 4 l.initial.out l.from l.cells l.out l.at l.cell-index
+abbrev pub invariant-loop-i : goal.invariant-loop-i
+invariant-loop-i l = EntriesWritten spaced 4 l.initial.out l.from l.cells l.out l.at l.i
